@@ -1,0 +1,10 @@
+pub mod Beside
+pub mod Faults
+pub mod Plan
+pub mod Written
+pub mod MemorySource
+pub mod MemorySink
+pub mod SteadySink
+pub mod ReadSource
+pub mod WriteSink
+pub mod Examples

@@ -1,0 +1,9 @@
+pub mod QualifiedName
+pub mod Name
+pub mod UuidText
+pub mod Ident
+pub mod Order
+pub mod Rising
+pub mod Reads
+pub mod Laws
+pub mod Examples

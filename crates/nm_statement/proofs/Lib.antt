@@ -1,0 +1,4 @@
+pub mod Orders
+pub mod Sets
+pub mod Merges
+pub mod Examples

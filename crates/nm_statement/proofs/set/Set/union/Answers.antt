@@ -1,0 +1,8 @@
+use Rattle.std.proofs.Common.{◌++◌, sym, subst}
+use Rattle.nm_statement.specs.Set.{IsRising}
+use Rattle.nm_statement.proofs.Sets.{rising-set_of}
+use Rattle.nm_statement.proofs.set.Set.union.Goals as goal
+
+pub invariant_of-result : goal.invariant_of-result
+invariant_of-result c =
+    subst IsRising (sym c.in_ok-either.ensures) (rising-set_of (c.deref.result.now ++ c.deref-2.result.now))
