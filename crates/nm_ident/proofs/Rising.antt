@@ -6,10 +6,13 @@ use Rattle.std.specs.Cmp.{IsTotalOrder}
 use Rattle.std.specs.List.{AllByRecursion, list_any, filter, dedup, position_or_len}
 use Rattle.std.specs.List.Sorted.{IsStrictlySortedBy}
 use Rattle.std.specs.BTreeSet.{BTreeSet, insert_key}
-use Rattle.nm_ident.specs.Rising.{is_rising_by}
+use Rattle.nm_ident.specs.Rising.{is_rising_by, rising_by}
+use Rattle.std.specs.List.Sorted.{IsSorted}
+use Rattle.std.specs.Prelude.{IsPermutation}
+use Rattle.std.proofs.lemmas.List.Sorted.{list_any-IsPermutation}
 use Rattle.std.proofs.lemmas.Cmp.{alike_right, tied_itself, eq_by_cmp_equiv}
 use Rattle.std.proofs.lemmas.List.Folds.{list_any-append}
-use Rattle.std.proofs.lemmas.List.Kept.{Contains-dedup, Contains-from_dedup}
+use Rattle.std.proofs.lemmas.List.Kept.{IsStrictlySortedBy-dedup, Contains-dedup, Contains-from_dedup}
 use Rattle.std.proofs.lemmas.Map.Views.{Contains-from_any, list_any-from_Contains, tells_apart}
 use Rattle.std.proofs.lemmas.Map.Lookups.{CmpEqualImpliesEq, btree_set_from_contains}
 
@@ -305,3 +308,20 @@ module _ {K : Type 0} (R : K → K → Ordering) where
       let less : R x y ≡ Less = lt_is_less (R x y) parts.0 in
       let others : IsStrictlySortedBy R (y ∷ ys) = rises-from_test o (y ∷ ys) parts.1 in
       ((less, all_weaker (λ z. R y z ≡ Less) (λ z. R x z ≡ Less) (λ z. o.trans x y z less) ys others.0), others)
+
+-- ---- the items of a list in order, each once
+
+module _ {K : Type 0} {R : K → K → Ordering} (o : IsTotalOrder R) (apart : (x y : K) → R x y ≡ Equal → x ≡ y) where
+  pub rising_by-is : (xs : List K) → rising_by R xs ≡ rising_of o xs
+  rising_by-is [] = refl
+  rising_by-is (x ∷ xs) = ap (λ ys. insert_key R ys x) (rising_by-is xs)
+
+  -- a rising list is that of each list with its items
+  pub rising_by-members : (xs ys : List K) → IsStrictlySortedBy R xs → ((x : K) → has_by o xs x ≡ has_by o ys x) → rising_by R ys ≡ xs
+  rising_by-members xs ys rising h = rising_by-is ys ∙ rising_of-is o apart xs ys rising h
+
+  -- a sort and a `dedup` make it
+  pub rising_by-sorted : (xs ys : List K) → IsPermutation xs ys → IsSorted R ys → dedup (eq_by_cmp R) ys ≡ rising_by R xs
+  rising_by-sorted xs ys moved sorted =
+      sym (rising_by-members (dedup (eq_by_cmp R) ys) xs (IsStrictlySortedBy-dedup o (λ x y. refl) ys sorted)
+      (λ x. has-dedup o apart ys x ∙ sym (list_any-IsPermutation (eq_by_cmp R x) xs ys moved)))

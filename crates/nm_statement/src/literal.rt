@@ -50,6 +50,13 @@ impl Literal {
         })
     }
 
+    /// Whether [`Literal::new`] takes the bytes.
+    pub fn accepts(bytes: &[u8]) -> bool
+        ensures { result ≡ is_literal bytes.now }
+    {
+        is_text(bytes) && bytes.len() <= LONGEST_LITERAL
+    }
+
     /// The bytes.
     pub fn as_slice(&self) -> &[u8]
         ensures bytes { result.now ≡ self.now }

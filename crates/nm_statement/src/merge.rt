@@ -61,7 +61,8 @@ fn around<'a>(
     statement: &Statement,
 ) -> (&'a [Statement], bool, &'a [Statement])
     requires { IsRising statements.now }
-    ensures whole { statements.now ≡ result.0.now ++ (if result.1 then statement.now ∷ result.2.now else result.2.now) }
+    ensures whole { statements.now
+        ≡ result.0.now ++ (if result.1 then statement.now ∷ result.2.now else result.2.now) }
     ensures below { AllByRecursion (λ s. statement_cmp s statement.now ≡ Ordering.Less) result.0.now }
     ensures above { AllByRecursion (λ s. statement_cmp statement.now s ≡ Ordering.Less) result.2.now }
 {

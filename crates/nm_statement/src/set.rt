@@ -2,8 +2,10 @@
 ghost use Rattle.nm_statement.specs.Set.{IsRising, has, minus_of, set_of, union_of};
 ghost use Rattle.nm_statement.specs.Sound.{is_sound_set, is_sound_statement};
 ghost use Rattle.std.specs.List.{list_all};
-ghost use Rattle.std.specs.Prelude.{◌≡◌, ◌==◌, length, IfOk, IsOk};
+ghost use Rattle.std.specs.Prelude.{◌≡◌, ◌==◌, ◌<◌, ◌^◌, length, IfOk, IsOk};
+ghost use Rattle.std.specs.Iterator.Adapters.{IterYieldsInOrder};
 ghost use Rattle.std.specs.Slice.Iter.{iter_rest};
+ghost use Rattle.nm_statement.specs.declared.statement.Statement as declared;
 
 use crate::merge::{append_copies, either, first_alone};
 use crate::statement::Statement;
@@ -13,6 +15,11 @@ use std::marker::Model;
 use std::slice::Iter;
 
 /// A set of statements. A contract sees it as the strictly rising list of them.
+///
+/// ```text
+/// let kept = base.minus(alloc, &change.rev)?.union(alloc, &change.fwd)?;
+/// assert!(kept.contains(&added));
+/// ```
 #[derive(Debug, Drop)]
 pub struct Set {
     statements: Vec<Statement>,
@@ -112,6 +119,8 @@ impl Set {
     pub fn iter(&self) -> SetIter<'_>
         ensures statements { iter_rest result ≡ self.now }
         ensures rising { IsRising self.now }
+        ensures bound { length (iter_rest result) < 2 ^ 64 }
+        ensures runs { IterYieldsInOrder declared.Statement }
     {
         self.statements.iter()
     }

@@ -1,4 +1,3 @@
-use Rattle.std.proofs.Common.{sym, ◌∙◌}
 use Rattle.nm_statement.specs.Order.{statement_cmp}
 use Rattle.nm_ident.proofs.Rising.{is_rising_by-so}
 use Rattle.nm_statement.proofs.set.Set.is_sound.Goals as goal
