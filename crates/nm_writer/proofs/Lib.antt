@@ -1,0 +1,10 @@
+pub mod Rising
+pub mod Namespaces
+pub mod Groups
+pub mod Classes
+pub mod Elements
+pub mod Documents
+pub mod Examples
+pub mod Pieces
+pub mod Many
+pub mod Numbers

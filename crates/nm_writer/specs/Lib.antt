@@ -1,0 +1,5 @@
+pub mod Escape
+pub mod Spaces
+pub mod Canonical
+pub mod Gives
+pub mod Reading

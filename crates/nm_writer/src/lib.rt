@@ -1,0 +1,23 @@
+//! The canonical document of a model: its writer, and its reader.
+//!
+//! Every model has one canonical document (RDF/XML in the profile of IEC 61970-552), so equal
+//! models are those with equal bytes.
+#![tactic(auto)]
+
+mod element;
+mod error;
+mod escape;
+mod header;
+mod lines;
+mod reading;
+mod spaces;
+mod used;
+mod writer;
+
+pub use error::CanonicalError;
+pub use escape::{escape_attribute, escape_text};
+pub use reading::read_canonical;
+pub use writer::{write_difference, write_full};
+
+#[cfg(test)]
+mod tests;
