@@ -69,7 +69,7 @@ module _ {K : Type 0} {R : K → K → Ordering} (o : IsTotalOrder R) where
   has_by xs k = list_any (eq_by_cmp R k) xs
 
   -- an insertion adds the item and nothing else
-  has-insert_key : (xs : List K) (k q : K) → has_by (insert_key R xs k) q ≡ (eq_by_cmp R q k || has_by xs q)
+  pub has-insert_key : (xs : List K) (k q : K) → has_by (insert_key R xs k) q ≡ (eq_by_cmp R q k || has_by xs q)
   has-insert_key [] k q = refl
   has-insert_key (x ∷ xs) k q = by (has-insert_key xs k q) (R k x) refl
     where
@@ -88,13 +88,13 @@ module _ {K : Type 0} {R : K → K → Ordering} (o : IsTotalOrder R) where
       by h Equal = a
       by h Greater = (a.0, h)
 
-  turned : (k x : K) → R k x ≡ Greater → R x k ≡ Less
+  pub turned : (k x : K) → R k x ≡ Greater → R x k ≡ Less
   turned k x e = o.antisymm x k ∙ ap ordering_reverse e
 
   over_all : (k x : K) → R k x ≡ Less → (xs : List K) → AllByRecursion (λ y. R x y ≡ Less) xs → AllByRecursion (λ y. R k y ≡ Less) xs
   over_all k x e = all_weaker (λ y. R x y ≡ Less) (λ y. R k y ≡ Less) (λ y. o.trans k x y e)
 
-  rising-insert_key : (xs : List K) (k : K) → IsStrictlySortedBy R xs → IsStrictlySortedBy R (insert_key R xs k)
+  pub rising-insert_key : (xs : List K) (k : K) → IsStrictlySortedBy R xs → IsStrictlySortedBy R (insert_key R xs k)
   unfolding IsStrictlySortedBy
   rising-insert_key [] k s = (tt, tt)
   rising-insert_key (x ∷ xs) k s = by (rising-insert_key xs k s.1) (R k x) refl

@@ -1,4 +1,4 @@
-pub mod Rising
+pub mod Places
 pub mod Namespaces
 pub mod Groups
 pub mod Classes

@@ -18,7 +18,8 @@ use Rattle.nm_ident.specs.Name.{same_text}
 use Rattle.nm_ident.specs.Order.{text_cmp}
 use Rattle.nm_writer.specs.Canonical.{declaration}
 use Rattle.nm_writer.specs.Spaces.{insert_text, rising_texts, is_rdf, with_space, cim_place, prefix_at, prefix_of, prefixes_of, IsPlaceOf}
-use Rattle.nm_writer.proofs.Rising.{has_by, has-insert_key, rising-insert_key, rising-nil, insert-is, insert-there, turned, turned_back, same_members}
+use Rattle.nm_ident.proofs.Rising.{has_by, has-insert_key, rising-insert_key, turned, same_members}
+use Rattle.nm_writer.proofs.Places.{rising-nil, insert-is, insert-there, turned_back}
 
 pub text_total : IsTotalOrder text_cmp
 text_total = nat_list_cmp_total

@@ -2,7 +2,7 @@ use Rattle.std.proofs.Common.{subst}
 use Rattle.std.specs.List.Sorted.{IsStrictlySortedBy}
 use Rattle.nm_ident.specs.Order.{text_cmp}
 use Rattle.nm_writer.proofs.Namespaces.{text_total}
-use Rattle.nm_writer.proofs.Rising.{rising-insert_key}
+use Rattle.nm_ident.proofs.Rising.{rising-insert_key}
 use Rattle.nm_writer.proofs.spaces.Namespaces.add.Goals as goal
 
 pub invariant_of-self : goal.invariant_of-self

@@ -1,5 +1,5 @@
 use Rattle.nm_writer.proofs.Namespaces.{text_total}
-use Rattle.nm_writer.proofs.Rising.{rising-nil}
+use Rattle.nm_writer.proofs.Places.{rising-nil}
 use Rattle.nm_writer.proofs.spaces.Namespaces.new.Goals as goal
 
 pub invariant_of-result : goal.invariant_of-result
