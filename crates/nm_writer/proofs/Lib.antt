@@ -8,3 +8,6 @@ pub mod Examples
 pub mod Pieces
 pub mod Many
 pub mod Numbers
+pub mod ManyAgain
+pub mod Spelt
+pub mod SpellingsAgain
