@@ -123,8 +123,11 @@ byte_at_shrinks (byte ∷ bytes) x e = by (byte == 38) e
 pub declaration_at_shrinks : Shrinks declaration_at
 unfolding declaration_at
 declaration_at_shrinks bytes x e =
-    let opening = bind_some (until 34 bytes) (λ opening. until 34 opening.1) x e in
-    omega (arith, until_shrinks 34 bytes opening.0 opening.1, until_shrinks 34 opening.0.1 x opening.2)
+    let opening = bind_some (until 34 bytes) (λ opening. until 34 opening.1 >>= λ spelling. unescaped spelling.0 >>= λ ns. Some (ns, spelling.1)) x e in
+    let spelling = bind_some (until 34 opening.0.1) (λ spelling. unescaped spelling.0 >>= λ ns. Some (ns, spelling.1)) x opening.2 in
+    let ns = bind_some (unescaped spelling.0.0) (λ ns. Some (ns, spelling.0.1)) x spelling.2 in
+    subst (λ (r : Read (List ℕ)). length r.1 < length bytes) (some_is (ns.0, spelling.0.1) x ns.2)
+    (omega (arith, until_shrinks 34 bytes opening.0 opening.1, until_shrinks 34 opening.0.1 spelling.0 spelling.1))
 
 -- a text that is read keeps what follows no longer than the bytes
 pub front_keeps : (count : ℕ) (bytes : List ℕ) (x : Read (List ℕ)) → front count bytes ≡ Some x → length x.1 ≤ length bytes

@@ -148,7 +148,9 @@ name_at spaces tag = do
 unfoldable pub declaration_at : List ℕ → Option (Read (List ℕ))
 declaration_at bytes = do
   opening ← until 34 bytes
-  until 34 opening.1
+  spelling ← until 34 opening.1
+  ns ← unescaped spelling.0
+  Some (ns, spelling.1)
 
 abbrev pub has_declaration : List ℕ → Bool
 has_declaration bytes = not (starts_with nat_eq bytes (codes ">"))

@@ -9,6 +9,7 @@ ghost use Rattle.std.specs.Prelude.{◌≡◌, true};
 use crate::error::CanonicalError;
 use crate::reading::kept::read_name;
 use crate::reading::pieces::{strip, until};
+use crate::reading::references::unescaped;
 use crate::spaces::is_of_committee;
 use nm_ident::{Name, RDF_NAMESPACE, Text};
 use std::alloc::Global;
@@ -95,21 +96,15 @@ fn has_declaration(bytes: &[u8]) -> bool
     !bytes.starts_with(b">")
 }
 
+/// The namespace of one declaration, which stands in it as an attribute is spelt.
+#[tactic(auto, unfolding(crate::specs::Reading::declaration_at))]
 fn read_declaration(alloc: Global, bytes: &[u8]) -> Result<(Text, &[u8]), CanonicalError>
     ensures { Gives (λ read. (read.0, read.1.now)) result (spec.declaration_at bytes.now) }
 {
-    let (space, rest) = declaration_at(bytes)?;
-    let space = Text::of_slice(alloc, space)?;
-    Ok((space, rest))
-}
-
-/// The namespace of one declaration.
-#[tactic(auto, unfolding(crate::specs::Reading::declaration_at))]
-fn declaration_at(bytes: &[u8]) -> Result<(&[u8], &[u8]), CanonicalError>
-    ensures { Gives (λ read. (read.0.now, read.1.now)) result (spec.declaration_at bytes.now) }
-{
     let (_, behind) = until(b'"', bytes)?;
-    until(b'"', behind)
+    let (spelling, rest) = until(b'"', behind)?;
+    let space = unescaped(alloc, spelling)?;
+    Ok((Text::of_list(space), rest))
 }
 
 /// The place of the namespace with this prefix, where CIM's stands at `cim`.
