@@ -11,3 +11,4 @@ pub mod Numbers
 pub mod ManyAgain
 pub mod Spelt
 pub mod SpellingsAgain
+pub mod NamesAgain
