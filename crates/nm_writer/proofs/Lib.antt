@@ -12,3 +12,4 @@ pub mod ManyAgain
 pub mod Spelt
 pub mod SpellingsAgain
 pub mod NamesAgain
+pub mod SpeltSections

@@ -1,11 +1,10 @@
 -- Prefixes, names and declarations are read again, and the names of sound sections are spelt.
-use Rattle.std.proofs.Common.{◌≡◌, ◌∙◌, ℕ, zero, suc, ◌+◌, ◌-◌, ◌/◌, ◌%◌, ◌^◌, ◌<◌, ◌≤◌, Bool, true, false, not, ◌&&◌, ◌||◌, cond, List, [], ◌∷◌, ◌++◌, length, get_or, map, filter, Option, None, Some, refl, sym, ap, subst, arith, add-one, append_assoc, append-nil, eqb, ltb, position, nat_lt, lt-ltb, le-ltb, ltb-true, ltb-false, if◌then◌else◌}
-use Rattle.std.specs.Prelude.{◌==◌, codes, slice_get}
+use Rattle.std.proofs.Common.{◌≡◌, ◌∙◌, ℕ, zero, suc, ◌+◌, ◌-◌, ◌/◌, ◌%◌, ◌^◌, ◌<◌, ◌≤◌, Bool, true, false, not, cond, List, [], ◌∷◌, ◌++◌, length, get_or, map, Option, None, Some, refl, sym, ap, subst, arith, add-one, append_assoc, append-nil, eqb, ltb, position, nat_lt, le-ltb, ltb-false, if◌then◌else◌}
+use Rattle.std.specs.Prelude.{◌==◌, codes}
 use Rattle.std.specs.Char.{is_ascii_digit}
-use Rattle.std.specs.Cmp.Lexicographic.{bytes_decides, texts_ties}
+use Rattle.std.specs.Cmp.Lexicographic.{bytes_decides}
 use Rattle.std.specs.Fmt.{decimal, digit_glyph, digits, digits_onto}
-use Rattle.std.specs.List.{AllByRecursion, enumerate_from, flat_map, list_all, list_any, position_or_len}
-use Rattle.std.specs.Str.Parse.{digits_value}
+use Rattle.std.specs.List.{AllByRecursion, enumerate_from, flat_map, list_all}
 use Rattle.std.proofs.lemmas.Bool.{eqb-true}
 use Rattle.std.proofs.lemmas.Bool.Decides.{nat_tests}
 use Rattle.std.proofs.lemmas.Fmt.{decimal_is_IsNumeral}
@@ -17,7 +16,7 @@ use Rattle.nm_ident.proofs.Idents.{list_all-weaker, name_bytes}
 use Rattle.nm_ident.specs.Name.{same_text, continues_name, is_name, is_predicate, rdf_namespace}
 use Rattle.nm_ident.specs.QualifiedName.{QualifiedName}
 use Rattle.nm_writer.specs.Canonical.{declaration, declarations, tag_of}
-use Rattle.nm_writer.specs.Reading.{◌>>=◌, is_left, number_below, number_at, counted_place, place_at, space_at, kept_name, name_at, unescaped, has_declaration, declaration_at, spaces_at}
+use Rattle.nm_writer.specs.Reading.{is_left, number_at, counted_place, place_at, space_at, name_at, unescaped, has_declaration, declaration_at, spaces_at}
 use Rattle.nm_writer.specs.Escape.{attribute_spelling}
 use Rattle.nm_writer.specs.Spaces.{is_rdf, cim_place, numbered_prefix, prefix_at, prefix_of, prefix_or_nothing}
 use Rattle.nm_writer.proofs.ManyAgain.{many_again}

@@ -74,7 +74,7 @@ module _ (spaces : List (List ℕ)) (ns : List ℕ) (s : IsStrictlySortedBy text
 
 -- ---- what a list of namespaces makes
 
-abbrev has : List (List ℕ) → List ℕ → Bool
+abbrev pub has : List (List ℕ) → List ℕ → Bool
 has texts text = has_by text_total texts text
 
 abbrev declared : List (List ℕ) → List (List ℕ)
@@ -114,7 +114,7 @@ rising-rising_texts : (xs : List (List ℕ)) → IsStrictlySortedBy text_cmp (ri
 rising-rising_texts [] = rising-nil text_total
 rising-rising_texts (x ∷ xs) = rising-insert_key text_total (rising_texts xs) x (rising-rising_texts xs)
 
-has-rising_texts : (xs : List (List ℕ)) (q : List ℕ) → has (rising_texts xs) q ≡ has xs q
+pub has-rising_texts : (xs : List (List ℕ)) (q : List ℕ) → has (rising_texts xs) q ≡ has xs q
 has-rising_texts [] q = refl
 has-rising_texts (x ∷ xs) q = has-insert_key text_total (rising_texts xs) x q ∙ ap (λ b. eq_by_cmp text_cmp q x || b) (has-rising_texts xs q)
 

@@ -1,11 +1,11 @@
 -- Escaped characters are read again, and the bytes that no spelling holds.
-use Rattle.std.proofs.Common.{◌≡◌, ◌∙◌, ℕ, suc, Bool, true, false, not, ◌&&◌, List, [], ◌∷◌, ◌++◌, length, map, Some, refl, sym, ap, subst, arith, append_assoc, append-nil, if◌then◌else◌}
+use Rattle.std.proofs.Common.{◌≡◌, ◌∙◌, ℕ, suc, Bool, true, false, not, List, [], ◌∷◌, ◌++◌, length, map, Some, refl, sym, ap, subst, arith, append_assoc, append-nil, if◌then◌else◌}
 use Rattle.std.specs.Prelude.{◌==◌, codes}
-use Rattle.std.specs.List.{flat_map, list_all, AllByRecursion}
+use Rattle.std.specs.List.{flat_map, AllByRecursion}
 use Rattle.std.proofs.lemmas.Bool.{eqb-true}
 use Rattle.std.proofs.lemmas.List.Folds.{list_all-append}
 use Rattle.nm_writer.specs.Escape.{spelt_in_text, spelt_in_attribute, text_spelling, attribute_spelling}
-use Rattle.nm_writer.specs.Reading.{◌>>=◌, many_at, is_left, byte_at, byte_named, reference_at, unescaped}
+use Rattle.nm_writer.specs.Reading.{many_at, is_left, byte_at, byte_named, reference_at, unescaped}
 use Rattle.nm_writer.proofs.ManyAgain.{many_again}
 use Rattle.nm_writer.proofs.Pieces.{lacks, until_again, byte_at_shrinks}
 
