@@ -20,7 +20,7 @@ or_again : (a b c : Bool) → a ≡ b → (a || c) ≡ (b || (a || c))
 or_again a true c e = ap (λ x. x || c) e
 or_again a false c e = refl
 
-or_swap : (a b c : Bool) → (a || (b || c)) ≡ (b || (a || c))
+pub or_swap : (a b c : Bool) → (a || (b || c)) ≡ (b || (a || c))
 or_swap true true c = refl
 or_swap true false c = refl
 or_swap false b c = refl

@@ -28,7 +28,7 @@ module _ {X : Type 0} (p : X → Bool) where
   filter_every [] a = refl
   filter_every (x ∷ xs) a = ap (λ b. cond b (x ∷ filter p xs) (filter p xs)) a.0 ∙ ap (λ (ys : List X). x ∷ ys) (filter_every xs a.1)
 
-  every-filter : (P : X → Type 0) (xs : List X) → AllByRecursion P xs → AllByRecursion P (filter p xs)
+  pub every-filter : (P : X → Type 0) (xs : List X) → AllByRecursion P xs → AllByRecursion P (filter p xs)
   every-filter P [] a = tt
   every-filter P (x ∷ xs) a = by (p x) (every-filter P xs a.1)
     where
@@ -69,7 +69,7 @@ less_from Less g e = refl
 less_from Equal g e = cc
 less_from Greater g e = cc
 
-equal_from : (r : Ordering) → is_eq r ≡ true → r ≡ Equal
+pub equal_from : (r : Ordering) → is_eq r ≡ true → r ≡ Equal
 equal_from Less e = cc
 equal_from Equal e = refl
 equal_from Greater e = cc
@@ -138,7 +138,7 @@ module _ (s : Ident) where
       by others true e = rw one_plus others
       by others false e = past_first s x xs (less_from (ident_cmp s x.subject) up.0 e) rising
 
-every-subjects_of : (P : Ident → Type 0) (xs : List Statement) → AllByRecursion (λ y. P y.subject) xs → AllByRecursion P (subjects_of xs)
+pub every-subjects_of : (P : Ident → Type 0) (xs : List Statement) → AllByRecursion (λ y. P y.subject) xs → AllByRecursion P (subjects_of xs)
 every-subjects_of P [] a = tt
 every-subjects_of P (x ∷ xs) a = (a.0, every-filter (λ t. not (is_eq (ident_cmp x.subject t))) P (subjects_of xs) (every-subjects_of P xs a.1))
 

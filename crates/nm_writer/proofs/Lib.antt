@@ -13,3 +13,6 @@ pub mod Spelt
 pub mod SpellingsAgain
 pub mod NamesAgain
 pub mod SpeltSections
+pub mod PropertiesAgain
+pub mod MembersAgain
+pub mod ElementsAgain

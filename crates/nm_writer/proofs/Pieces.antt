@@ -70,7 +70,7 @@ strip_again prefix rest = rw (starts_itself prefix rest, drop_at prefix rest (le
 abbrev pub lacks : ℕ → List ℕ → Bool
 lacks byte text = list_all (λ other. not (other == byte)) text
 
-first_place : (byte : ℕ) (text rest : List ℕ) → lacks byte text ≡ true → position_or_len (λ other. other == byte) (text ++ byte ∷ rest) ≡ length text
+pub first_place : (byte : ℕ) (text rest : List ℕ) → lacks byte text ≡ true → position_or_len (λ other. other == byte) (text ++ byte ∷ rest) ≡ length text
 first_place byte [] rest e = rw same refl
   where
     same : eqb byte byte ≡ true
