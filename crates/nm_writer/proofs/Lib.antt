@@ -16,3 +16,9 @@ pub mod SpeltSections
 pub mod PropertiesAgain
 pub mod MembersAgain
 pub mod ElementsAgain
+pub mod HeaderAgain
+pub mod HeaderUnread
+pub mod SectionsAgain
+pub mod FewSpaces
+pub mod DocumentsAgain
+pub mod CanonicalModels

@@ -55,7 +55,7 @@ strip_shrinks prefix bytes rest some e =
     (omega (arith, length-drop (length prefix) bytes, fits_front prefix bytes found.0, some))
 
 -- what was written is read again
-starts_itself : (prefix rest : List ℕ) → starts_with nat_eq (prefix ++ rest) prefix ≡ true
+pub starts_itself : (prefix rest : List ℕ) → starts_with nat_eq (prefix ++ rest) prefix ≡ true
 starts_itself [] rest = refl
 starts_itself (b ∷ prefix) rest = rw (same_byte b) (starts_itself prefix rest)
   where

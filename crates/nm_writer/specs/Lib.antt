@@ -3,3 +3,5 @@ pub mod Spaces
 pub mod Canonical
 pub mod Gives
 pub mod Reading
+pub mod Plain
+pub mod Laws

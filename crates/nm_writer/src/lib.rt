@@ -8,6 +8,7 @@ mod element;
 mod error;
 mod escape;
 mod header;
+mod laws;
 mod lines;
 mod reading;
 mod spaces;
@@ -16,6 +17,7 @@ mod writer;
 
 pub use error::CanonicalError;
 pub use escape::{escape_attribute, escape_text};
+pub use laws::documents_tell_models_apart;
 pub use reading::read_canonical;
 pub use writer::{write_difference, write_full};
 

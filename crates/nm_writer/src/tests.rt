@@ -419,7 +419,7 @@ fn a_byte_less_is_another_model_or_none(rt: HostRuntime) -> Result<(), Fail> {
         let mut text = NORTH[..place].to_vec(alloc)?;
         text.extend_from_slice(&NORTH[place + 1..])?;
         if read(alloc, text.as_slice())?.is_some() {
-            models += 1;
+            models = models.saturating_add(1);
         }
     }
     // One less of the name's 5 bytes, of the identity's 36 digits and hyphens, or of the 21 bytes

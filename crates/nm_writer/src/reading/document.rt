@@ -1,6 +1,8 @@
 // Whole canonical documents, read back.
 ghost use Rattle.nm_writer.specs.Canonical.{canonical_of};
+ghost use Rattle.nm_model.specs.declared.document.Document as declared;
 ghost use Rattle.nm_writer.specs.Gives.{Gives};
+ghost use Rattle.nm_writer.specs.Plain.{IsCanonicalOf, IsUnlessNoMemory};
 ghost use Rattle.nm_writer.specs.Reading as spec;
 ghost use Rattle.std.specs.Prelude.{◌≡◌, IfOk};
 
@@ -25,14 +27,16 @@ const ROOT: &[u8] =
 /// The declaration that a difference model's document has.
 const DIFFERENCE: &[u8] = b" xmlns:dm=\"http://iec.ch/TC57/61970-552/DifferenceModel/1#\"";
 
-/// The model whose canonical document the bytes are.
+/// The model whose canonical document the bytes are: no other has this document.
 ///
 /// `NotCanonical` comes exactly where they are no canonical document of a sound model within the
 /// limits on a document's bytes, statements, texts and header, whose header has no property but
 /// profiles, dependencies and superseded models.
 #[tactic(auto, unfolding(crate::specs::Reading::canonical_model))]
 pub fn read_canonical(alloc: Global, bytes: &[u8]) -> Result<Document, CanonicalError>
-    ensures { Gives (λ model. model) result (spec.canonical_model bytes.now) }
+    ensures exact { Gives (λ model. model) result (spec.canonical_model bytes.now) }
+    ensures found { IfOk result (λ model. IsCanonicalOf model bytes.now) }
+    ensures only { (model : declared.Document) → IsCanonicalOf model bytes.now → IsUnlessNoMemory result model }
 {
     if bytes.len() > LONGEST_DOCUMENT {
         return Err(CanonicalError::NotCanonical);
