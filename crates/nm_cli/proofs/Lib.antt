@@ -1,0 +1,13 @@
+pub mod Numerals
+pub mod Causes
+pub mod Ids
+pub mod Insertion
+pub mod Steps
+pub mod Refusals
+pub mod Turns
+pub mod ExamplesOfReplies
+pub mod LineFeeds
+pub mod Gives
+pub mod Commands
+pub mod Sessions
+pub mod StreamExamples

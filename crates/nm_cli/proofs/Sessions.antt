@@ -1,0 +1,325 @@
+-- Lemmas on a session in between its commands, and at its end.
+use Rattle.std.proofs.Common.{◌≡◌, ℕ, zero, suc, ◌+◌, ◌-◌, ◌<◌, ◌≤◌, List, [], ◌++◌, Option, None, Some, IfSome, Bool, true, false, cond, length, take, drop, codes, refl, sym, ap, ◌∙◌, subst, arith, append_assoc, inl, inr}
+use Rattle.std.proofs.lemmas.List.{length-take, take_all, take_at, drop_at, take-append-le}
+use Rattle.std.proofs.Math.Seq.{take-add}
+use Rattle.std.proofs.lemmas.Bool.{lt-ltb, le-ltb}
+use Rattle.std.proofs.KnownBytes.{Appends-trans, Appends-nil}
+use Rattle.std.specs.Io.KnownBytes.{Appends}
+use Rattle.nm_base.specs.Written.{AppendsFront}
+use Rattle.nm_base.specs.declared.outcome.Status.{Status}
+use Rattle.nm_base.specs.declared.outcome.Status.TheVariants.{Done, Refused, Usage, ReadFault, WriteFault, NoMemory, BadSession, Cut, TooMuch, DoorFault}
+use Rattle.nm_cli.specs.Answered.{AppendsPrefix, is_ending, AnswersStream, AnswersUnlessFaults, HasCause}
+use Rattle.nm_cli.specs.Turns.{is_end, TakesCommand, TakesTurn, TurnStops, NamesBadLine, EndsWith}
+use Rattle.nm_cli.specs.Held.{Held}
+use Rattle.nm_cli.specs.Input.{coming, in_session}
+use Rattle.nm_cli.specs.Reply.{numbered}
+use Rattle.nm_cli.specs.Stream.{Next, next_in, Outcome, behind_reply, behind_command, offset_behind, bad_line, short, outcome_of, outcome_within, longest_session, short_ending, outcome}
+use Rattle.nm_cli.specs.Turn.{Turn, turn_of}
+use Rattle.nm_cli.specs.declared.turn.State.{State}
+use Rattle.nm_cli.specs.declared.turn.State.TheVariants.{Empty}
+use Rattle.nm_cli.specs.declared.stop.Stop.{Stop}
+use Rattle.nm_cli.specs.declared.word.Word.{Word}
+use Rattle.nm_cli.specs.declared.word.Word.TheVariants.{Base, File, Assemble, Summary, End}
+
+-- in between two commands: the replies so far, and then what comes of the rest, are the whole outcome
+pub record Standing (stream : List ℕ) (held : Held) (left : Option (List ℕ)) (state : State) (written now : Option (List ℕ)) : Type 0 where
+  pub bytes : List ℕ
+  pub known : coming held left ≡ Some bytes
+  pub size : held.given + length bytes ≡ length stream
+  pub replies : List ℕ
+  pub appended : Appends written now replies
+  pub turns : ℕ
+  pub enough : length (in_session held bytes) ≤ turns
+  pub whole : outcome stream ≡ behind_reply replies (outcome_within (suc turns) (short_ending stream) state held.given (in_session held bytes))
+
+pub stands_first : (held : Held) (left written : Option (List ℕ)) → held ≡ record { ahead = []; given = 0 } → IfSome left (λ stream. Standing stream held left Empty written written)
+stands_first held None written e = tt
+stands_first held (Some stream) written e =
+    let first : Standing stream (record { ahead = []; given = 0 }) (Some stream) Empty written written = record {
+      bytes = stream;
+      known = refl;
+      size = omega arith;
+      replies = [];
+      appended = Appends-nil written;
+      turns = length (take longest_session stream);
+      enough = omega arith;
+      whole = refl;
+    } in
+    subst (λ (h : Held). Standing stream h (Some stream) Empty written written) (sym e) first
+
+-- what comes of a rest, by what stands next
+unfolded : (turns : ℕ) (on_short : Status) (state : State) (at : ℕ) (bytes : List ℕ) (next : Next) → next_in state bytes ≡ next
+    → outcome_within (suc turns) on_short state at bytes ≡ outcome_of on_short (outcome_within turns on_short) state at bytes next
+unfolding outcome_within
+unfolded turns on_short state at bytes next e = ap (outcome_of on_short (outcome_within turns on_short) state at bytes) e
+
+behind_both : (first second : List ℕ) (others : Outcome) → behind_reply first (behind_reply second others) ≡ behind_reply (first ++ second) others
+behind_both first second others = ap (λ (l : List ℕ). let o : Outcome = record { replies = l; ending = others.ending } in o) (sym (append_assoc first second others.replies))
+
+goes_on : (word : Word) (turn : Turn) (others : Outcome) → is_end word ≡ false → behind_command word turn others ≡ behind_reply turn.reply others
+goes_on (Base len) turn others e = refl
+goes_on (File day len) turn others e = refl
+goes_on (Assemble day) turn others e = refl
+goes_on (Summary day) turn others e = refl
+goes_on End turn others e = cc
+
+is_over : (word : Word) (turn : Turn) (others : Outcome) → is_end word ≡ true → behind_command word turn others ≡ record { replies = turn.reply; ending = Done }
+is_over (Base len) turn others e = cc
+is_over (File day len) turn others e = cc
+is_over (Assemble day) turn others e = cc
+is_over (Summary day) turn others e = cc
+is_over End turn others e = refl
+
+-- ---- the next turn
+
+-- the rest behind a command, as the session may take it
+record Behind (old new : Held) (bytes rest : List ℕ) : Type 0 where
+  offset : offset_behind old.given (in_session old bytes) (in_session new rest) ≡ new.given
+  shorter : length (in_session new rest) < length (in_session old bytes)
+
+behind : (old new : Held) (bytes rest : List ℕ) → old.given + length bytes ≡ new.given + length rest → old.given < new.given → new.given ≤ longest_session → Behind old new bytes rest
+behind old new bytes rest size more limit = record {
+  offset = omega (arith, length-take (longest_session - old.given) bytes, length-take (longest_session - new.given) rest);
+  shorter = omega (arith, length-take (longest_session - old.given) bytes, length-take (longest_session - new.given) rest);
+}
+
+-- a turn that was not the last
+stands_after : (stream : List ℕ) (old new : Held) (left : Option (List ℕ)) (before after : State) (written mid now : Option (List ℕ)) (bytes replies : List ℕ) (turns : ℕ)
+    → old.given + length bytes ≡ length stream → Appends written mid replies → length (in_session old bytes) ≤ turns
+    → outcome stream ≡ behind_reply replies (outcome_within (suc turns) (short_ending stream) before old.given (in_session old bytes))
+    → TakesTurn before after old new bytes left mid now false → old.given < new.given → new.given ≤ longest_session
+    → Standing stream new left after written now
+stands_after stream old new left before after written mid now bytes replies zero size appended enough whole taken more limit =
+    let shorter = (behind old new bytes taken.taken.rest taken.taken.size more limit).shorter in absurd (omega arith)
+stands_after stream old new left before after written mid now bytes replies (suc turns) size appended enough whole taken more limit =
+    let rest = taken.taken.rest in
+    let left_behind = behind old new bytes rest taken.taken.size more limit in
+    let shorter = left_behind.shorter in
+    let turn = turn_of before taken.word taken.body in
+    let later = outcome_within (suc turns) (short_ending stream) in
+    record {
+      bytes = rest;
+      known = taken.taken.known;
+      size = sym taken.taken.size ∙ size;
+      replies = replies ++ turn.reply;
+      appended = Appends-trans written mid now replies turn.reply appended taken.reply;
+      turns = turns;
+      enough = omega arith;
+      whole = whole ∙ ap (behind_reply replies)
+          (unfolded (suc turns) (short_ending stream) before old.given (in_session old bytes) _ taken.taken.next
+          ∙ goes_on taken.word turn (later turn.state (offset_behind old.given (in_session old bytes) (in_session new rest)) (in_session new rest)) (sym taken.last)
+          ∙ ap (λ (n : ℕ). behind_reply turn.reply (later turn.state n (in_session new rest))) left_behind.offset
+          ∙ ap (λ (s : State). behind_reply turn.reply (later s new.given (in_session new rest))) (sym taken.state))
+          ∙ behind_both replies turn.reply (later after new.given (in_session new rest));
+    }
+
+at_known : {known : Option (List ℕ)} {bytes : List ℕ} (P : List ℕ → Type 0) → known ≡ Some bytes → IfSome known P → P bytes
+at_known P e h = subst (λ o. IfSome o P) e h
+
+pub stands_next : (stream : List ℕ) (old new : Held) (left rest : Option (List ℕ)) (before after : State) (written mid now : Option (List ℕ)) (is_last : Bool) → is_last ≡ false
+    → Standing stream old left before written mid
+    → IfSome (coming old left) (λ bytes. TakesTurn before after old new bytes rest mid now is_last) → old.given < new.given → new.given ≤ longest_session
+    → Standing stream new rest after written now
+stands_next stream old new left rest before after written mid now is_last goes stands taken more limit =
+    let turn = at_known (λ bytes. TakesTurn before after old new bytes rest mid now is_last) stands.known taken in
+    stands_after stream old new rest before after written mid now stands.bytes stands.replies stands.turns stands.size stands.appended stands.enough stands.whole
+    (subst (TakesTurn before after old new stands.bytes rest mid now) goes turn) more limit
+
+-- ---- the end
+
+-- all of the replies were written
+whole_answer : (stream : List ℕ) (status : Status) (written now : Option (List ℕ)) (given : Outcome) → outcome stream ≡ given → status ≡ given.ending → Appends written now given.replies
+    → AnswersStream stream status written now
+whole_answer stream status written now given e ends appended =
+    let replies : (outcome stream).replies ≡ given.replies = ap (λ (o : Outcome). o.replies) e in
+    let all : Appends written now (outcome stream).replies = subst (Appends written now) (sym replies) appended in
+    record {
+      prefix = (length (outcome stream).replies, subst (Appends written now) (sym (take_all (length (outcome stream).replies) (outcome stream).replies (omega arith))) all);
+      whole = λ _. record { ending = ends ∙ ap (λ (o : Outcome). o.ending) (sym e); replies = all };
+    }
+
+take_behind : (xs ys : List ℕ) (n : ℕ) → take (length xs + n) (xs ++ ys) ≡ xs ++ take n ys
+take_behind xs ys n =
+    take-add (length xs) n (xs ++ ys) ∙ ap (λ l. l ++ take n (drop (length xs) (xs ++ ys))) (take_at xs ys (length xs) refl) ∙ ap (λ l. xs ++ take n l) (drop_at xs ys (length xs) refl)
+
+-- some of the first replies were written, at a status that is no ending
+part_answer : (stream : List ℕ) (status : Status) (written mid now : Option (List ℕ)) (replies : List ℕ) (others : Outcome) → outcome stream ≡ behind_reply replies others
+    → Appends written mid replies → AppendsPrefix mid now others.replies → is_ending status ≡ false → AnswersStream stream status written now
+part_answer stream status written mid now replies others e appended more no_ending =
+    let all : (outcome stream).replies ≡ replies ++ others.replies = ap (λ (o : Outcome). o.replies) e in
+    let front : take (length replies + more.0) (outcome stream).replies ≡ replies ++ take more.0 others.replies =
+    ap (take (length replies + more.0)) all ∙ take_behind replies others.replies more.0 in
+    record {
+      prefix = (length replies + more.0, subst (Appends written now) (sym front) (Appends-trans written mid now replies (take more.0 others.replies) appended more.1));
+      whole = λ ends. absurd (let wrong : true ≡ false = sym ends ∙ no_ending in cc);
+    }
+
+nothing_more : (mid now : Option (List ℕ)) (bytes : List ℕ) → now ≡ mid → AppendsPrefix mid now bytes
+nothing_more mid now bytes e = (0, subst (λ o. Appends mid o []) (sym e) (Appends-nil mid))
+
+-- the front of a reply is the front of what comes of the rest
+front_of_reply : (word : Word) (turn : Turn) (others : Outcome) (n : ℕ) → n ≤ length turn.reply → take n (behind_command word turn others).replies ≡ take n turn.reply
+front_of_reply (Base len) turn others n h = take-append-le n turn.reply others.replies h
+front_of_reply (File day len) turn others n h = take-append-le n turn.reply others.replies h
+front_of_reply (Assemble day) turn others n h = take-append-le n turn.reply others.replies h
+front_of_reply (Summary day) turn others n h = take-append-le n turn.reply others.replies h
+front_of_reply End turn others n h = refl
+
+pub is_done : (stream : List ℕ) (old new : Held) (left rest : Option (List ℕ)) (before after : State) (written mid now : Option (List ℕ)) (is_last : Bool) → is_last ≡ true
+    → Standing stream old left before written mid
+    → IfSome (coming old left) (λ bytes. TakesTurn before after old new bytes rest mid now is_last)
+    → AnswersStream stream Done written now
+is_done stream old new left rest before after written mid now is_last over stands taken =
+    let turn = at_known (λ bytes. TakesTurn before after old new bytes rest mid now is_last) stands.known taken in
+    let made = turn_of before turn.word turn.body in
+    let later = outcome_within stands.turns (short_ending stream) made.state (offset_behind old.given (in_session old stands.bytes) (in_session new turn.taken.rest)) (in_session new turn.taken.rest) in
+    let last : Outcome = record { replies = made.reply; ending = Done } in
+    whole_answer stream Done written now (behind_reply stands.replies last)
+    (stands.whole ∙ ap (behind_reply stands.replies)
+    (unfolded stands.turns (short_ending stream) before old.given (in_session old stands.bytes) _ turn.taken.next
+    ∙ is_over turn.word made later (sym turn.last ∙ over)))
+    refl
+    (Appends-trans written mid now stands.replies made.reply stands.appended turn.reply)
+
+-- after a bad line
+ends_bad : (stream : List ℕ) (status : Status) (written mid between now : Option (List ℕ)) (replies : List ℕ) (at before after : ℕ) → outcome stream ≡ behind_reply replies (bad_line at)
+    → Appends written mid replies → between ≡ mid → NamesBadLine status at between now before after → AnswersStream stream status written now
+ends_bad stream BadSession written mid between now replies at before after e appended same named =
+    whole_answer stream BadSession written now (behind_reply replies (bad_line at)) e refl
+    (Appends-trans written mid now replies (numbered (codes "badline") at) appended (subst (λ o. Appends o now (numbered (codes "badline") at)) same named))
+ends_bad stream WriteFault written mid between now replies at before after e appended same named =
+    part_answer stream WriteFault written mid now replies (bad_line at) e appended
+    (subst (λ o. AppendsPrefix o now (numbered (codes "badline") at)) same (named.0.0, named.0.2)) refl
+ends_bad stream NoMemory written mid between now replies at before after e appended same named =
+    part_answer stream NoMemory written mid now replies (bad_line at) e appended (nothing_more mid now (numbered (codes "badline") at) (named ∙ same)) refl
+ends_bad stream Done written mid between now replies at before after e appended same named = absurd named
+ends_bad stream Refused written mid between now replies at before after e appended same named = absurd named
+ends_bad stream Usage written mid between now replies at before after e appended same named = absurd named
+ends_bad stream ReadFault written mid between now replies at before after e appended same named = absurd named
+ends_bad stream Cut written mid between now replies at before after e appended same named = absurd named
+ends_bad stream TooMuch written mid between now replies at before after e appended same named = absurd named
+ends_bad stream DoorFault written mid between now replies at before after e appended same named = absurd named
+
+-- after less than a whole command
+ends_short : (stream : List ℕ) (stopped status : Status) (written mid between now : Option (List ℕ)) (replies : List ℕ) → outcome stream ≡ behind_reply replies (short (short_ending stream))
+    → short_ending stream ≡ stopped → Appends written mid replies → between ≡ mid → (status ≡ stopped) × (now ≡ between) → AnswersStream stream status written now
+ends_short stream stopped status written mid between now replies e ends appended same as_stopped =
+    whole_answer stream status written now (behind_reply replies (short (short_ending stream))) e (as_stopped.0 ∙ sym ends)
+    (Appends-trans written mid now replies [] appended (subst (λ o. Appends mid o []) (sym (as_stopped.1 ∙ same)) (Appends-nil mid)))
+
+-- after a stop that tells of no ending, with nothing more written
+ends_early : (stream : List ℕ) (stopped status : Status) (written mid between now : Option (List ℕ)) (replies : List ℕ) (others : Outcome) → outcome stream ≡ behind_reply replies others
+    → is_ending stopped ≡ false → Appends written mid replies → AppendsPrefix mid between others.replies → (status ≡ stopped) × (now ≡ between) → AnswersStream stream status written now
+ends_early stream stopped status written mid between now replies others e no_ending appended more as_stopped =
+    part_answer stream status written mid now replies others e appended (subst (λ o. AppendsPrefix mid o others.replies) (sym as_stopped.1) more) (ap is_ending as_stopped.0 ∙ no_ending)
+
+-- the same, by the stop of a turn
+ends_at : (stream : List ℕ) (held : Held) (left : Option (List ℕ)) (state : State) (stopped : Status) (at : ℕ) (status : Status) (written mid between now : Option (List ℕ)) (before after : ℕ)
+    → (stands : Standing stream held left state written mid) → TurnStops stopped at state held stands.bytes mid between → EndsWith stopped at status between now before after
+    → AnswersStream stream status written now
+ends_at stream held left state BadSession at status written mid between now before after stands stops ends =
+    ends_bad stream status written mid between now stands.replies at before after
+    (stands.whole ∙ ap (behind_reply stands.replies)
+    (unfolded stands.turns (short_ending stream) state held.given (in_session held stands.bytes) _ stops.0.1 ∙ ap bad_line (sym stops.0.0)))
+    stands.appended stops.1 ends
+ends_at stream held left state Cut at status written mid between now before after stands stops ends =
+    ends_short stream Cut status written mid between now stands.replies
+    (stands.whole ∙ ap (behind_reply stands.replies) (unfolded stands.turns (short_ending stream) state held.given (in_session held stands.bytes) _ stops.0.0))
+    (ap (λ b. cond b Cut TooMuch) (lt-ltb (length stream) longest_session (omega (arith, stands.size, stops.0.1))))
+    stands.appended stops.1 ends
+ends_at stream held left state TooMuch at status written mid between now before after stands stops ends =
+    ends_short stream TooMuch status written mid between now stands.replies
+    (stands.whole ∙ ap (behind_reply stands.replies) (unfolded stands.turns (short_ending stream) state held.given (in_session held stands.bytes) _ stops.0.0))
+    (ap (λ b. cond b Cut TooMuch) (le-ltb (length stream) longest_session (omega (arith, stands.size, stops.0.1))))
+    stands.appended stops.1 ends
+ends_at stream held left state WriteFault at status written mid between now before after stands stops ends =
+    let turn = turn_of state stops.word stops.body in
+    let others = outcome_within stands.turns (short_ending stream) turn.state (offset_behind held.given (in_session held stands.bytes) stops.rest) stops.rest in
+    let few : stops.front.0 ≤ length turn.reply = omega (arith, stops.front.1) in
+    ends_early stream WriteFault status written mid between now stands.replies (behind_command stops.word turn others)
+    (stands.whole ∙ ap (behind_reply stands.replies) (unfolded stands.turns (short_ending stream) state held.given (in_session held stands.bytes) _ stops.next))
+    refl stands.appended
+    (stops.front.0, subst (Appends mid between) (sym (front_of_reply stops.word turn others stops.front.0 few)) stops.front.2)
+    ends
+ends_at stream held left state ReadFault at status written mid between now before after stands stops ends =
+    ends_early stream ReadFault status written mid between now stands.replies _ stands.whole refl stands.appended (nothing_more mid between _ stops) ends
+ends_at stream held left state NoMemory at status written mid between now before after stands stops ends =
+    ends_early stream NoMemory status written mid between now stands.replies _ stands.whole refl stands.appended (nothing_more mid between _ stops) ends
+ends_at stream held left state Done at status written mid between now before after stands stops ends = absurd stops
+ends_at stream held left state Refused at status written mid between now before after stands stops ends = absurd stops
+ends_at stream held left state Usage at status written mid between now before after stands stops ends = absurd stops
+ends_at stream held left state DoorFault at status written mid between now before after stands stops ends = absurd stops
+
+pub ends_stopped : (stream : List ℕ) (held : Held) (left : Option (List ℕ)) (state : State) (stopped : Status) (at : ℕ) (status : Status) (written mid between now : Option (List ℕ)) (before after : ℕ)
+    → Standing stream held left state written mid → IfSome (coming held left) (λ bytes. TurnStops stopped at state held bytes mid between) → EndsWith stopped at status between now before after
+    → AnswersStream stream status written now
+ends_stopped stream held left state stopped at status written mid between now before after stands stops ends =
+    ends_at stream held left state stopped at status written mid between now before after stands (at_known (λ bytes. TurnStops stopped at state held bytes mid between) stands.known stops) ends
+
+-- ---- causes
+
+cause_from : (status : Status) (read_first read_before read_after write_first write_before write_between write_after : ℕ) → HasCause status read_before read_after write_before write_between
+    → read_first ≤ read_before → write_first ≤ write_before → write_between ≤ write_after → HasCause status read_first read_after write_first write_after
+cause_from ReadFault a b c d e f g h r w k = omega arith
+cause_from WriteFault a b c d e f g h r w k = omega arith
+cause_from Done a b c d e f g h r w k = tt
+cause_from NoMemory a b c d e f g h r w k = tt
+cause_from BadSession a b c d e f g h r w k = tt
+cause_from Cut a b c d e f g h r w k = tt
+cause_from TooMuch a b c d e f g h r w k = tt
+cause_from Refused a b c d e f g h r w k = absurd h
+cause_from Usage a b c d e f g h r w k = absurd h
+cause_from DoorFault a b c d e f g h r w k = absurd h
+
+bad_line_cause : (status : Status) (at : ℕ) (written now : Option (List ℕ)) (read_before read_after write_first write_before write_after : ℕ) → write_first ≤ write_before
+    → NamesBadLine status at written now write_before write_after → HasCause status read_before read_after write_first write_after
+bad_line_cause BadSession at written now a b c d e k named = tt
+bad_line_cause WriteFault at written now a b c d e k named = omega (arith, named.1)
+bad_line_cause NoMemory at written now a b c d e k named = tt
+bad_line_cause Done at written now a b c d e k named = absurd named
+bad_line_cause Refused at written now a b c d e k named = absurd named
+bad_line_cause Usage at written now a b c d e k named = absurd named
+bad_line_cause ReadFault at written now a b c d e k named = absurd named
+bad_line_cause Cut at written now a b c d e k named = absurd named
+bad_line_cause TooMuch at written now a b c d e k named = absurd named
+bad_line_cause DoorFault at written now a b c d e k named = absurd named
+
+-- the cause of the stop is that of the status
+pub ended_cause : (stopped : Status) (at : ℕ) (status : Status) (written now : Option (List ℕ)) (read_first read_before read_after write_first write_before write_between write_after : ℕ)
+    → HasCause stopped read_before read_after write_before write_between → read_first ≤ read_before → write_first ≤ write_before → write_before ≤ write_between → write_between ≤ write_after
+    → EndsWith stopped at status written now write_between write_after → HasCause status read_first read_after write_first write_after
+ended_cause BadSession at status written now a b c d e f g h r w u k ends = bad_line_cause status at written now a c d f g (omega arith) ends
+ended_cause ReadFault at status written now a b c d e f g h r w u k ends = subst (λ s. HasCause s a c d g) (sym ends.0) (cause_from ReadFault a b c d e f g h r w k)
+ended_cause WriteFault at status written now a b c d e f g h r w u k ends = subst (λ s. HasCause s a c d g) (sym ends.0) (cause_from WriteFault a b c d e f g h r w k)
+ended_cause Done at status written now a b c d e f g h r w u k ends = subst (λ s. HasCause s a c d g) (sym ends.0) tt
+ended_cause NoMemory at status written now a b c d e f g h r w u k ends = subst (λ s. HasCause s a c d g) (sym ends.0) tt
+ended_cause Cut at status written now a b c d e f g h r w u k ends = subst (λ s. HasCause s a c d g) (sym ends.0) tt
+ended_cause TooMuch at status written now a b c d e f g h r w u k ends = subst (λ s. HasCause s a c d g) (sym ends.0) tt
+ended_cause Refused at status written now a b c d e f g h r w u k ends = absurd h
+ended_cause Usage at status written now a b c d e f g h r w u k ends = absurd h
+ended_cause DoorFault at status written now a b c d e f g h r w u k ends = absurd h
+
+-- without a fault that is told, the status is an ending or want of memory
+pub is_complete : (stream : List ℕ) (status : Status) (written now : Option (List ℕ)) (read_before read_after write_before write_after : ℕ) → HasCause status read_before read_after write_before write_after
+    → AnswersStream stream status written now → AnswersUnlessFaults stream status written now read_before read_after write_before write_after
+is_complete stream ReadFault written now a b c d h answers no_read no_write = absurd (no_read h)
+is_complete stream WriteFault written now a b c d h answers no_read no_write = absurd (no_write h)
+is_complete stream Done written now a b c d h answers no_read no_write = inl (answers.whole refl)
+is_complete stream BadSession written now a b c d h answers no_read no_write = inl (answers.whole refl)
+is_complete stream Cut written now a b c d h answers no_read no_write = inl (answers.whole refl)
+is_complete stream TooMuch written now a b c d h answers no_read no_write = inl (answers.whole refl)
+is_complete stream NoMemory written now a b c d h answers no_read no_write = inr refl
+is_complete stream Refused written now a b c d h answers no_read no_write = absurd h
+is_complete stream Usage written now a b c d h answers no_read no_write = absurd h
+is_complete stream DoorFault written now a b c d h answers no_read no_write = absurd h
+
+-- ---- a reply that was not written whole
+
+pub breaks_reply : (state : State) (old new : Held) (before after : Option (List ℕ)) (word : Word) (body seen reply : List ℕ) (stop : Stop) (written now : Option (List ℕ))
+    → IfSome (coming old before) (λ bytes. TakesCommand state old new bytes after word body) → seen ≡ reply → reply ≡ (turn_of state word body).reply
+    → stop.status ≡ WriteFault → AppendsFront written now seen
+    → IfSome (coming old before) (λ bytes. TurnStops stop.status stop.at state old bytes written now)
+breaks_reply state old new None after word body seen reply stop written now taken same is status front = tt
+breaks_reply state old new (Some xs) after word body seen reply stop written now taken same is status front =
+    subst (λ s. TurnStops s stop.at state old (old.ahead ++ xs) written now) (sym status)
+    (record { word = word; body = body; rest = in_session new taken.rest; next = taken.next; front = subst (AppendsFront written now) (same ∙ is) front })

@@ -1,0 +1,60 @@
+-- Short streams, with their replies and endings.
+use Rattle.std.proofs.Common.{◌≡◌, [], ◌∷◌, ◌++◌, codes, Some, true, false, refl, lit<, lit≤}
+use Rattle.std.specs.Prelude.{replicate}
+use Rattle.nm_base.specs.declared.outcome.Status.TheVariants.{Done, ReadFault, Cut}
+use Rattle.nm_cli.specs.Answered.{AppendsPrefix, HasCause}
+use Rattle.nm_cli.specs.CommandLine.{is_session}
+use Rattle.nm_cli.specs.Day.{day_of}
+use Rattle.nm_cli.specs.Input.{GivesLine}
+use Rattle.nm_cli.specs.Reply.{numbered}
+use Rattle.nm_cli.specs.Stream.{outcome, outcome_within, bad_line, short}
+use Rattle.nm_cli.specs.Word.{length_of, dated_line}
+use Rattle.nm_cli.specs.declared.turn.State.TheVariants.{Empty}
+
+-- a session of nothing but its end; what follows the end is not looked at
+only_end : outcome (codes "end" ++ 10 ∷ codes "?") ≡ record { replies = numbered (codes "end") 0; ending = Done }
+unfolding outcome_within
+only_end = refl
+
+-- a line that is no command there is named by the offset at which it begins
+bad_first_line : outcome (codes "summary 2024-01-01" ++ 10 ∷ []) ≡ bad_line 0
+unfolding outcome_within dated_line day_of
+bad_first_line = refl
+
+bad_later_line : outcome_within 2 Cut Empty 71 (10 ∷ []) ≡ bad_line 71
+unfolding outcome_within dated_line
+bad_later_line = refl
+
+-- a document that ends before its length does
+cut_document : outcome (codes "base 3" ++ 10 ∷ codes "ab") ≡ short Cut
+unfolding outcome_within length_of
+cut_document = refl
+
+-- a rest of 256 bytes may still become a line, and one of 257 is too long for it
+may_become_line : outcome (replicate 256 120) ≡ short Cut
+unfolding outcome_within
+may_become_line = refl
+
+too_long_for_line : outcome (replicate 257 120) ≡ bad_line 0
+unfolding outcome_within
+too_long_for_line = refl
+
+-- the form is one word
+one_word : is_session (codes "session" ∷ []) ≡ true
+one_word = refl
+
+two_words : is_session (codes "session" ∷ [] ∷ []) ≡ false
+two_words = refl
+
+-- one of two bytes was written
+one_of_two : AppendsPrefix (Some (1 ∷ [])) (Some (1 ∷ 2 ∷ [])) (2 ∷ 3 ∷ [])
+one_of_two = (1, refl)
+
+-- a fault is told where its count rose
+told : HasCause ReadFault 4 5 0 0
+told = lit≤ tt
+
+-- the line `end` was given from what was read ahead, and from what the source had left
+line_given : GivesLine (record { ahead = codes "en"; given = 3 }) (record { ahead = codes "x"; given = 7 })
+    (Some (codes "d" ++ 10 ∷ codes "xy")) (Some (codes "y")) (codes "end")
+line_given = record { short = lit< tt; whole = refl; taken = refl; given = refl; limit = lit≤ tt }

@@ -1,0 +1,17 @@
+pub mod Digits
+pub mod Day
+pub mod Word
+pub mod Kept
+pub mod Filed
+pub mod Replay
+pub mod Assembly
+pub mod Refusal
+pub mod Reply
+pub mod Turn
+pub mod ExamplesOfStore
+pub mod Stream
+pub mod Held
+pub mod Input
+pub mod Turns
+pub mod Answered
+pub mod CommandLine

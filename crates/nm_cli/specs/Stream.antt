@@ -1,0 +1,95 @@
+-- A session stream: how it is cut into commands, its replies in order, and how it ends.
+use Rattle.std.specs.Prelude.{ℕ, zero, suc, ◌+◌, ◌-◌, List, [], ◌++◌, length, take, drop, Bool, Option, None, Some, ◌==◌, nat_le, nat_lt, codes, position, if◌then◌else◌}
+use Rattle.nm_base.specs.declared.outcome.Status.{Status}
+use Rattle.nm_base.specs.declared.outcome.Status.TheVariants.{Done, BadSession, Cut, TooMuch}
+use Rattle.nm_cli.specs.Reply.{numbered}
+use Rattle.nm_cli.specs.Turn.{allows, Turn, turn_of}
+use Rattle.nm_cli.specs.Word.{word_of, body_length}
+use Rattle.nm_cli.specs.declared.turn.State.{State}
+use Rattle.nm_cli.specs.declared.turn.State.TheVariants.{Empty}
+use Rattle.nm_cli.specs.declared.word.Word.{Word}
+use Rattle.nm_cli.specs.declared.word.Word.TheVariants.{End}
+
+-- what stands next in a stream: a whole command with its body and what comes behind it, a line that is
+-- no command, or less than either
+pub data Next : Type 0 where
+  Command : Word → List ℕ → List ℕ → Next
+  BadLine : Next
+  Short : Next
+
+-- the body that the command asks for
+abbrev pub with_body : Word → List ℕ → Next
+with_body word bytes =
+    if nat_le (body_length word) (length bytes)
+    then Command word (take (body_length word) bytes) (drop (body_length word) bytes)
+    else Short
+
+abbrev pub by_word : State → Option Word → List ℕ → Next
+by_word state None bytes = BadLine
+by_word state (Some word) bytes = if allows state word then with_body word bytes else BadLine
+
+-- a line ends among the next 257 bytes
+abbrev pub by_line : State → Option ℕ → List ℕ → Next
+by_line state None bytes = if nat_lt (length bytes) 257 then Short else BadLine
+by_line state (Some place) bytes = by_word state (word_of (take place bytes)) (drop (place + 1) bytes)
+
+abbrev pub is_line_feed : ℕ → Bool
+is_line_feed byte = byte == 10
+
+abbrev pub line_end : List ℕ → Option ℕ
+line_end bytes = position is_line_feed (take 257 bytes)
+
+abbrev pub next_in : State → List ℕ → Next
+next_in state bytes = by_line state (line_end bytes) bytes
+
+-- the replies, and how the stream ends
+pub record Outcome : Type 0 where
+  pub replies : List ℕ
+  pub ending : Status
+
+abbrev pub behind_reply : List ℕ → Outcome → Outcome
+behind_reply reply outcome = record { replies = reply ++ outcome.replies; ending = outcome.ending }
+
+-- the rest of a session behind a command: nothing behind `end`
+abbrev pub behind_command : Word → Turn → Outcome → Outcome
+behind_command End turn others = record { replies = turn.reply; ending = Done }
+behind_command _ turn others = behind_reply turn.reply others
+
+-- the offset behind a command, of a rest that had so many bytes
+abbrev pub offset_behind : ℕ → List ℕ → List ℕ → ℕ
+offset_behind at bytes after = at + (length bytes - length after)
+
+abbrev pub bad_line : ℕ → Outcome
+bad_line at = record { replies = numbered (codes "badline") at; ending = BadSession }
+
+abbrev pub short : Status → Outcome
+short status = record { replies = []; ending = status }
+
+-- what comes of the rest of a stream, which stands at this offset: `on_short` is how it ends where no whole
+-- command is left, and `others` what comes of the rests behind commands
+abbrev pub outcome_of : Status → (State → ℕ → List ℕ → Outcome) → State → ℕ → List ℕ → Next → Outcome
+outcome_of on_short others state at bytes Short = short on_short
+outcome_of on_short others state at bytes BadLine = bad_line at
+outcome_of on_short others state at bytes (Command word body after) =
+    let turn = turn_of state word body in
+    behind_command word turn (others turn.state (offset_behind at bytes after) after)
+
+-- the same for a number of commands at most; each takes a byte at least
+unfoldable pub outcome_within : ℕ → Status → State → ℕ → List ℕ → Outcome
+outcome_within zero on_short state at bytes = short on_short
+outcome_within (suc turns) on_short state at bytes =
+    outcome_of on_short (outcome_within turns on_short) state at bytes (next_in state bytes)
+
+-- the most bytes that a session takes
+abbrev pub longest_session : ℕ
+longest_session = 4294967296
+
+-- a stream that ends without its last command is cut, unless the session takes no more bytes
+abbrev pub short_ending : List ℕ → Status
+short_ending stream = if nat_lt (length stream) longest_session then Cut else TooMuch
+
+-- the replies to a stream, and its ending
+abbrev pub outcome : List ℕ → Outcome
+outcome stream =
+    let taken = take longest_session stream in
+    outcome_within (suc (length taken)) (short_ending stream) Empty 0 taken

@@ -1,0 +1,22 @@
+// Numbers in decimal digits.
+ghost use Rattle.nm_cli.specs.Digits as spec;
+ghost use Rattle.std.specs.Prelude.{◌≡◌, ◌≤◌};
+
+/// The number that decimal digits spell. `None` comes exactly where a byte is no digit, or the
+/// number is larger than `most`.
+pub fn number_within(most: u64, digits: &[u8]) -> Option<u64>
+    requires { most ≤ 67108864 }
+    ensures { result ≡ spec.number_within most digits.now }
+{
+    let mut number = 0;
+    for digit in digits {
+        if !digit.is_ascii_digit() {
+            return None;
+        }
+        number = number * 10 + u64::from(*digit - b'0');
+        if number > most {
+            return None;
+        }
+    }
+    Some(number)
+}

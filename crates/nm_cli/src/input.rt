@@ -1,0 +1,266 @@
+// The lines and documents of a stream.
+ghost use Rattle.std.specs.Prelude.{◌≡◌, ◌≢◌, ◌+◌, ◌-◌, ◌<◌, ◌≤◌, [], ◌++◌, length, take, drop, min, None, position, IfOk, IfErr, OnOk};
+ghost use Rattle.nm_base.specs.declared.outcome.Status.TheVariants.{BadSession, TooMuch};
+ghost use Rattle.std.specs.Io.KnownBytes.{Consumes};
+ghost use Rattle.nm_cli.specs.Stream.{is_line_feed, longest_session};
+ghost use Rattle.nm_cli.specs.Held.{Held};
+ghost use Rattle.nm_cli.specs.Input.{coming, ReadsAhead, GivesLine, GivesBody, ReadStops, AheadStops, SeekStops, LineStops, BodyStops, CountsReads};
+
+use crate::stop::Stop;
+use nm_base::{NoMemory, Source, Status};
+use std::alloc::Global;
+use std::marker::Model;
+
+/// The most bytes that a session takes as lines and documents.
+const LONGEST_SESSION: u64 = 4_294_967_296;
+
+/// The bytes among which a line has to end: those of the longest line, and its line feed.
+const LINE_ROOM: u64 = 257;
+
+/// How many bytes are asked for at once.
+const CHUNK: usize = 65_536;
+
+/// What a session reads: the bytes read ahead, and how many were given so far. It is used with one
+/// source alone.
+#[derive(Drop)]
+pub struct Input {
+    ahead: Vec<u8>,
+    start: usize,
+    given: u64,
+}
+
+impl Model for Input {
+    ghost use Rattle.std.specs.Prelude.{◌≤◌, drop, length};
+    ghost use Rattle.nm_cli.specs.Held.{Held};
+
+    ghost Value = { Held };
+
+    ghost view = { λ i. record { ahead = drop i.start i.ahead.items; given = i.given } };
+
+    ghost invariant = { λ i. (i.start ≤ length i.ahead.items) × (i.given ≤ 4294967296) };
+}
+
+impl Input {
+    /// An input of which nothing was read.
+    pub fn new(alloc: Global) -> Input
+        ensures { result ≡ record { ahead = []; given = 0 } }
+    {
+        Input {
+            ahead: Vec::new(alloc),
+            start: 0,
+            given: 0,
+        }
+    }
+
+    /// How many bytes were given as lines and documents.
+    pub fn offset(&self) -> u64
+        ensures given { result ≡ self.now.given }
+        ensures limit { result ≤ longest_session }
+    {
+        self.given
+    }
+
+    /// The next line without its line feed.
+    ///
+    /// A stop is `BadSession` where no line ends among the next 257 bytes, `TooMuch` where the
+    /// session may take no more bytes, and `Cut` where the source ends before.
+    pub fn next_line<S: Source>(&mut self, alloc: Global, source: &mut S) -> Result<Vec<u8>, Stop>
+        ensures line { IfOk result (λ line. GivesLine self.old self.new (S.left source.old) (S.left source.new) line.items) }
+        ensures stop { IfErr result (λ stop. LineStops stop.status stop.at self.old (S.left source.old)) }
+        ensures counted { CountsReads (S.faults source.old) (S.faults source.new) result }
+        ensures beside_stays { S.beside source.new ≡ S.beside source.old }
+    {
+        let room = self.room(LINE_ROOM);
+        match self.seek_line_end(alloc, source, room)? {
+            Some(place) => {
+                let line = self.front(alloc, place)?;
+                self.give(place + 1);
+                Ok(line)
+            }
+            None => Err(self.no_line(room)),
+        }
+    }
+
+    /// The next bytes, as many as the document of a line has.
+    ///
+    /// A stop is `TooMuch` where the session may not take as many, and `Cut` where the source ends
+    /// before.
+    pub fn next_body<S: Source>(
+        &mut self,
+        alloc: Global,
+        source: &mut S,
+        len: u64,
+    ) -> Result<Vec<u8>, Stop>
+        ensures body { IfOk result (λ body. GivesBody self.old self.new (S.left source.old) (S.left source.new) len body.items) }
+        ensures stop { IfErr result (λ stop. BodyStops stop.status stop.at len self.old (S.left source.old)) }
+        ensures counted { CountsReads (S.faults source.old) (S.faults source.new) result }
+        ensures beside_stays { S.beside source.new ≡ S.beside source.old }
+    {
+        let room = self.room(len);
+        self.read_ahead(alloc, source, room)?;
+        if (room as u64) < len {
+            return Err(Stop::of(Status::TooMuch));
+        }
+        let body = self.front(alloc, room)?;
+        self.give(room);
+        Ok(body)
+    }
+
+    /// How many of so many bytes the session may still take.
+    fn room(&self, wanted: u64) -> usize
+        ensures room { result ≡ min wanted (longest_session - self.now.given) }
+        ensures limit { self.now.given + result ≤ longest_session }
+    {
+        wanted.min(LONGEST_SESSION - self.given) as usize
+    }
+
+    /// The stop where no line ends within the room that there is.
+    fn no_line(&self, room: usize) -> Stop
+        ensures long { room ≡ 257 → result ≡ record { status = BadSession; at = self.now.given } }
+        ensures full { room ≢ 257 → result ≡ record { status = TooMuch; at = 0 } }
+    {
+        if room == LINE_ROOM as usize {
+            Stop::bad_session(self.given)
+        } else {
+            Stop::of(Status::TooMuch)
+        }
+    }
+
+    /// How many bytes are read ahead.
+    fn held(&self) -> usize
+        ensures { result ≡ length self.now.ahead }
+    {
+        self.ahead.len() - self.start
+    }
+
+    /// The place of the first line feed among the first bytes, so many at most.
+    fn line_end(&self, room: usize) -> Option<usize>
+        ensures { result ≡ position is_line_feed (take room self.now.ahead) }
+    {
+        line_feed_place(front_of(&self.ahead[self.start..], room))
+    }
+
+    /// A copy of the first bytes.
+    fn front(&self, alloc: Global, count: usize) -> Result<Vec<u8>, NoMemory>
+        requires { count ≤ length self.now.ahead }
+        ensures { IfOk result (λ bytes. bytes.items ≡ take count self.now.ahead) }
+    {
+        self.ahead[self.start..self.start + count].to_vec(alloc)
+    }
+
+    /// Counts the first bytes as given.
+    fn give(&mut self, count: usize)
+        requires held { count ≤ length self.old.ahead }
+        requires limit { self.old.given + count ≤ longest_session }
+        ensures { self.new ≡ record { ahead = drop count self.old.ahead; given = self.old.given + count } }
+    {
+        self.start += count;
+        self.given += count as u64;
+    }
+
+    /// Reads ahead until a line feed is among the first bytes, so many at most, or all of these
+    /// are held. The answer is the place of the first one.
+    fn seek_line_end<S: Source>(
+        &mut self,
+        alloc: Global,
+        source: &mut S,
+        room: usize,
+    ) -> Result<Option<usize>, Stop>
+        ensures ahead { OnOk result (ReadsAhead self.old self.new (S.left source.old) (S.left source.new)) }
+        ensures place { IfOk result (λ place. place ≡ position is_line_feed (take room self.new.ahead)) }
+        ensures held { IfOk result (λ place. place ≡ None → room ≤ length self.new.ahead) }
+        ensures stop { IfErr result (λ stop. SeekStops stop.status stop.at room self.old (S.left source.old)) }
+        ensures counted { CountsReads (S.faults source.old) (S.faults source.new) result }
+        ensures beside_stays { S.beside source.new ≡ S.beside source.old }
+    {
+        'reading: loop {
+            let place = self.line_end(room);
+            if place.is_some() || self.held() >= room {
+                return Ok(place);
+            }
+            self.fill(alloc, source)?;
+        }
+    }
+
+    /// Reads ahead until so many bytes are held.
+    fn read_ahead<S: Source>(
+        &mut self,
+        alloc: Global,
+        source: &mut S,
+        room: usize,
+    ) -> Result<(), Stop>
+        ensures ahead { OnOk result (ReadsAhead self.old self.new (S.left source.old) (S.left source.new)) }
+        ensures held { OnOk result (room ≤ length self.new.ahead) }
+        ensures stop { IfErr result (λ stop. AheadStops stop.status stop.at room self.old (S.left source.old)) }
+        ensures counted { CountsReads (S.faults source.old) (S.faults source.new) result }
+        ensures beside_stays { S.beside source.new ≡ S.beside source.old }
+    {
+        'reading: while self.held() < room {
+            self.fill(alloc, source)?;
+        }
+        Ok(())
+    }
+
+    /// Reads what comes next. A stop is `Cut` at the end of the source.
+    fn fill<S: Source>(&mut self, alloc: Global, source: &mut S) -> Result<(), Stop>
+        ensures ahead { OnOk result (ReadsAhead self.old self.new (S.left source.old) (S.left source.new)) }
+        ensures more { OnOk result (length self.old.ahead < length self.new.ahead) }
+        ensures stop { IfErr result (λ stop. ReadStops stop.status stop.at (S.left source.old)) }
+        ensures counted { CountsReads (S.faults source.old) (S.faults source.new) result }
+        ensures beside_stays { S.beside source.new ≡ S.beside source.old }
+    {
+        let mut chunk = [0; CHUNK];
+        let count = read_some(source, &mut chunk)?;
+        self.keep(alloc, &chunk[..count])?;
+        Ok(())
+    }
+
+    /// Keeps bytes behind those read ahead.
+    fn keep(&mut self, alloc: Global, bytes: &[u8]) -> Result<(), NoMemory>
+        ensures { OnOk result (self.new ≡ record { ahead = self.old.ahead ++ bytes.now; given = self.old.given }) }
+    {
+        self.drop_given(alloc)?;
+        self.ahead.extend_from_slice(bytes)
+    }
+
+    /// Lets go of the bytes that were given.
+    fn drop_given(&mut self, alloc: Global) -> Result<(), NoMemory>
+        ensures { OnOk result (self.new ≡ self.old) }
+    {
+        if self.start > 0 {
+            self.ahead = self.ahead[self.start..].to_vec(alloc)?;
+            self.start = 0;
+        }
+        Ok(())
+    }
+}
+
+/// The first bytes, so many at most.
+fn front_of(bytes: &[u8], room: usize) -> &[u8]
+    ensures { result.now ≡ take room bytes.now }
+{
+    &bytes[..bytes.len().min(room)]
+}
+
+/// The place of the first line feed.
+fn line_feed_place(bytes: &[u8]) -> Option<usize>
+    ensures { result ≡ position is_line_feed bytes.now }
+{
+    bytes.iter().position(|byte| *byte == b'\n')
+}
+
+/// Reads at least one byte. A stop is `Cut` at the end of the source.
+fn read_some<S: Source>(source: &mut S, chunk: &mut [u8]) -> Result<usize, Stop>
+    requires { 0 < length chunk.old }
+    ensures within { IfOk result (λ count. (0 < count) × (count ≤ length chunk.new)) }
+    ensures bytes { IfOk result (λ count. Consumes (S.left source.old) (S.left source.new) (take count chunk.new)) }
+    ensures stop { IfErr result (λ stop. ReadStops stop.status stop.at (S.left source.old)) }
+    ensures counted { CountsReads (S.faults source.old) (S.faults source.new) result }
+    ensures beside_stays { S.beside source.new ≡ S.beside source.old }
+{
+    match source.read(chunk) {
+        Ok(0) => Err(Stop::of(Status::Cut)),
+        Ok(count) => Ok(count),
+        Err(_) => Err(Stop::of(Status::ReadFault)),
+    }
+}
