@@ -365,13 +365,14 @@ fn writes_the_three_sections_of_a_difference(rt: HostRuntime) -> Result<(), Fail
     let text = text_of(alloc, &lines)?;
     let written = write_difference(alloc, &new_name(alloc)?)?;
     assert_eq!(rt; written.as_slice(), text.as_slice());
-    match read(alloc, text.as_slice())? {
-        Some(Document::Difference(Difference { change, .. })) => {
+    match difference_of(read(alloc, text.as_slice())?) {
+        Some(difference) => {
+            let change = difference.change;
             assert_eq!(rt; change.pre.len(), 1);
             assert_eq!(rt; change.rev.len(), 0);
             assert!(rt; change.fwd.contains(&name_of_substation(alloc, b"North 2")?));
         }
-        _ => assert!(rt; false),
+        None => assert!(rt; false),
     }
     Ok(())
 }
@@ -382,6 +383,24 @@ fn read(alloc: Global, text: &[u8]) -> Result<Option<Document>, NoMemory> {
         Ok(model) => Ok(Some(model)),
         Err(CanonicalError::NotCanonical) => Ok(None),
         Err(CanonicalError::NoMemory) => Err(NoMemory),
+    }
+}
+
+/// The model, where it is a full one.
+fn full_of(model: Option<Document>) -> Option<Full> {
+    match model {
+        Some(Document::Full(full)) => Some(full),
+        Some(Document::Difference(_difference)) => None,
+        None => None,
+    }
+}
+
+/// The model, where it is a difference.
+fn difference_of(model: Option<Document>) -> Option<Difference> {
+    match model {
+        Some(Document::Difference(difference)) => Some(difference),
+        Some(Document::Full(_full)) => None,
+        None => None,
     }
 }
 
@@ -400,13 +419,16 @@ const NORTH: &[u8] =
 #[test]
 fn reads_a_full_model(rt: HostRuntime) -> Result<(), Fail> {
     let alloc = rt.alloc();
-    match read(alloc, NORTH)? {
-        Some(Document::Full(Full { header, statements })) => {
-            assert_eq!(rt; header.id, BASE);
-            assert_eq!(rt; statements.len(), 2);
-            assert!(rt; statements.contains(&name_of_substation(alloc, b"North")?));
+    match full_of(read(alloc, NORTH)?) {
+        Some(full) => {
+            assert_eq!(rt; full.header.id, BASE);
+            assert_eq!(rt; full.statements.len(), 2);
+            assert!(rt;
+                full.statements
+                    .contains(&name_of_substation(alloc, b"North")?)
+            );
         }
-        _ => assert!(rt; false),
+        None => assert!(rt; false),
     }
     Ok(())
 }
@@ -444,7 +466,10 @@ fn reads_a_namespace_that_is_spelt_with_references(rt: HostRuntime) -> Result<()
     let statements = set(alloc, &[(b"s", given)])?;
     let header = bare_header(alloc, BASE);
     let text = write_full(alloc, &Full { header, statements })?;
-    assert!(rt; read(alloc, text.as_slice())?.is_some());
+    match full_of(read(alloc, text.as_slice())?) {
+        Some(full) => assert!(rt; full.statements.contains(&statement(alloc, b"s", given)?)),
+        None => assert!(rt; false),
+    }
     Ok(())
 }
 
