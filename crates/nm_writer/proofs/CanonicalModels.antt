@@ -1,5 +1,5 @@
 -- What a reader gives is the kept model whose canonical document it was, and each such model is given.
-use Rattle.std.proofs.Common.{◌≡◌, ◌∙◌, ℕ, ◌≤◌, Bool, true, false, ◌&&◌, cond, List, ◌∷◌, [], length, Option, None, Some, Result, Ok, Err, refl, sym, ap, subst, arith, codes, ◌++◌}
+use Rattle.std.proofs.Common.{◌≡◌, ◌∙◌, ℕ, ◌≤◌, Bool, true, false, ◌&&◌, List, ◌∷◌, [], length, Option, None, Some, Result, Ok, Err, refl, sym, ap, subst, codes, ◌++◌}
 use Rattle.std.specs.Prelude.{IfOk, nat_le, if◌then◌else◌}
 use Rattle.std.proofs.lemmas.Bool.{le-leb, leb-true}
 use Rattle.std.proofs.lemmas.Bool.Decides.{Decides-eqb}

@@ -1,7 +1,7 @@
 -- What is written of a model is read again.
-use Rattle.std.proofs.Common.{◌≡◌, ◌∙◌, ℕ, zero, suc, ◌+◌, ◌-◌, ◌^◌, ◌<◌, ◌≤◌, Bool, true, false, not, ◌&&◌, cond, eqb, ltb, List, [], ◌∷◌, ◌++◌, length, Option, None, Some, refl, sym, ap, subst, arith, append_assoc, append-nil, lit<, lit≤, ◌*◌, if◌then◌else◌}
+use Rattle.std.proofs.Common.{◌≡◌, ◌∙◌, ℕ, ◌+◌, ◌-◌, ◌^◌, ◌<◌, ◌≤◌, Bool, true, false, List, [], ◌∷◌, ◌++◌, length, Option, None, Some, refl, sym, ap, arith, append_assoc, append-nil, lit<, if◌then◌else◌}
 use Rattle.std.specs.Prelude.{codes, nat_le, nat_lt, ◌==◌}
-use Rattle.std.specs.List.{enumerate_from, flat_map, starts_with}
+use Rattle.std.specs.List.{enumerate_from, flat_map}
 use Rattle.std.proofs.lemmas.Bool.{leb-true}
 use Rattle.nm_ident.specs.UuidText.{uuid_text}
 use Rattle.nm_model.specs.Sound.{is_kept, is_model_id, is_sound_change, is_sound_difference, is_sound_full, is_sound_header, stated_by}
@@ -11,8 +11,7 @@ use Rattle.nm_model.specs.declared.document.Document.TheVariants as document
 use Rattle.nm_model.specs.declared.document.Full.{Full}
 use Rattle.nm_statement.specs.Sound.{is_sound_set}
 use Rattle.nm_statement.specs.declared.set.Change.{Change}
-use Rattle.nm_statement.specs.declared.statement.Statement.{Statement}
-use Rattle.nm_writer.specs.Canonical.{canonical_difference, canonical_full, canonical_of, closing, declaration, declarations, elements, header_lines, line_feed, root_start, sections, spaces_of, xml_line}
+use Rattle.nm_writer.specs.Canonical.{canonical_difference, canonical_full, canonical_of, declaration, declarations, elements, header_lines, line_feed, root_start, sections, spaces_of, xml_line}
 use Rattle.nm_writer.specs.Escape.{attribute_spelling}
 use Rattle.nm_writer.specs.Laws.{DocumentsTellModelsApart}
 use Rattle.nm_writer.specs.Plain.{is_plain, is_plain_header}
@@ -23,7 +22,7 @@ use Rattle.nm_writer.proofs.FewSpaces.{few_spaces, few_spaces_of_three}
 use Rattle.nm_writer.proofs.HeaderAgain.{Follows, header_again, header_end}
 use Rattle.nm_writer.proofs.HeaderUnread.{other_lines, stops_at}
 use Rattle.nm_writer.proofs.NamesAgain.{spaces_again}
-use Rattle.nm_writer.proofs.Pieces.{some_is, starts_itself, strip_again}
+use Rattle.nm_writer.proofs.Pieces.{some_is, strip_again}
 use Rattle.nm_writer.proofs.SectionsAgain.{AreSections, change_again}
 use Rattle.nm_writer.proofs.Spelt.{AreSpelt}
 use Rattle.nm_writer.proofs.SpeltSections.{spelt_of}

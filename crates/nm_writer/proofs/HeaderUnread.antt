@@ -1,5 +1,5 @@
 -- A header that states a property which is not read: nothing is read of its document.
-use Rattle.std.proofs.Common.{◌≡◌, ◌∙◌, ℕ, suc, Bool, false, true, ◌&&◌, List, [], ◌∷◌, ◌++◌, length, Option, None, Some, is_none, refl, codes}
+use Rattle.std.proofs.Common.{◌≡◌, ℕ, suc, Bool, false, true, ◌&&◌, List, [], ◌∷◌, ◌++◌, length, Option, None, Some, is_none, refl, codes}
 use Rattle.std.specs.List.{flat_map}
 use Rattle.nm_ident.specs.UuidText.{uuid_text}
 use Rattle.nm_model.specs.Sound.{is_model_id}

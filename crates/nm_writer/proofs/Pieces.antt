@@ -1,7 +1,7 @@
 -- The pieces of a document: what is read is shorter, and what was written is read again.
-use Rattle.std.proofs.Common.{◌≡◌, ◌≢◌, ◌∙◌, ℕ, zero, suc, ◌+◌, ◌-◌, ◌<◌, ◌≤◌, Bool, true, false, not, ◌&&◌, cond, eqb, ltb, List, [], ◌∷◌, ◌++◌, length, take, drop, Option, None, Some, refl, sym, ap, subst, arith, add-one, position}
+use Rattle.std.proofs.Common.{◌≡◌, ℕ, zero, suc, ◌+◌, ◌<◌, ◌≤◌, Bool, true, false, not, ◌&&◌, cond, eqb, ltb, List, [], ◌∷◌, ◌++◌, length, take, drop, Option, None, Some, refl, ap, subst, arith, add-one, position}
 use Rattle.std.specs.Prelude.{◌==◌, nat_eq, nat_lt, codes, map}
-use Rattle.std.specs.List.{list_all, starts_with, position_or_len, prefix_len}
+use Rattle.std.specs.List.{list_all, starts_with, position_or_len}
 use Rattle.std.specs.Option.{option_map}
 use Rattle.std.proofs.lemmas.Bool.{eqb-true, lt-ltb}
 use Rattle.std.proofs.lemmas.List.{length-append, length-drop, take_at, drop_at}

@@ -4,9 +4,8 @@ use Rattle.std.specs.Prelude.{codes}
 use Rattle.nm_statement.specs.Sound.{is_sound_set}
 use Rattle.nm_statement.specs.declared.set.Change.{Change}
 use Rattle.nm_statement.specs.declared.statement.Statement.{Statement}
-use Rattle.nm_model.specs.Sound.{is_sound_change}
 use Rattle.nm_writer.specs.Canonical.{elements, line_feed, section, sections}
-use Rattle.nm_writer.specs.Reading.{change_at, section_at, set_at, strip, tag_end}
+use Rattle.nm_writer.specs.Reading.{change_at, section_at, tag_end}
 use Rattle.nm_writer.proofs.ElementsAgain.{set_again}
 use Rattle.nm_writer.proofs.Pieces.{strip_again}
 use Rattle.nm_writer.proofs.Spelt.{AreSpelt}

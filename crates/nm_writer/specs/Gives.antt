@@ -1,5 +1,5 @@
 -- What a reader of canonical documents returns, against what reading gives.
-use Rattle.std.specs.Prelude.{◌≡◌, List, ℕ, Option, Some, None, Result, Ok, Err}
+use Rattle.std.specs.Prelude.{◌≡◌, Option, Some, None, Result, Ok, Err}
 use Rattle.nm_writer.specs.declared.error.CanonicalError.{CanonicalError}
 use Rattle.nm_writer.specs.declared.error.CanonicalError.TheVariants as canonical_error
 

@@ -2,7 +2,7 @@
 --
 -- What these readers give is judged afterwards: a document is canonical where the model that was read
 -- is sound, within the limits, and written as these very bytes.
-use Rattle.std.specs.Prelude.{ℕ, zero, suc, ◌+◌, ◌-◌, List, [], ◌∷◌, ◌++◌, length, take, drop, Bool, true, false, not, ◌&&◌, ◌||◌, ◌^◌, Option, None, Some, option_and_then, ◌==◌, nat_le, nat_lt, nat_eq, codes, position, map, slice_get, if◌then◌else◌}
+use Rattle.std.specs.Prelude.{ℕ, zero, suc, ◌+◌, List, [], ◌∷◌, ◌++◌, length, take, drop, Bool, true, false, not, ◌&&◌, ◌||◌, ◌^◌, Option, None, Some, option_and_then, ◌==◌, nat_le, nat_lt, nat_eq, codes, position, map, slice_get, if◌then◌else◌}
 use Rattle.std.specs.List.{starts_with, flat_map, list_all}
 use Rattle.std.specs.Option.{option_map}
 use Rattle.std.specs.Char.{is_ascii_digit}

@@ -1,5 +1,4 @@
-use Rattle.std.proofs.Common.{◌≡◌, ◌∙◌, ap, sym, suc, length, true, Some, lit<}
-use Rattle.std.specs.Prelude.{codes, ◌++◌, ◌∷◌, []}
+use Rattle.std.proofs.Common.{sym, suc, length}
 use Rattle.std.proofs.lemmas.Result.{err_from_is_err_and}
 use Rattle.nm_writer.specs.Reading.{is_open, property_at, many_at, properties_at}
 use Rattle.nm_writer.proofs.Many.{begins, goes_on, stops, fails}

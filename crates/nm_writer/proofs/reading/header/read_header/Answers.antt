@@ -1,4 +1,4 @@
-use Rattle.std.proofs.Common.{◌≡◌, refl}
+use Rattle.std.proofs.Common.{refl}
 use Rattle.nm_writer.specs.Reading.{header_at}
 use Rattle.nm_writer.proofs.reading.header.read_header.Goals as goal
 

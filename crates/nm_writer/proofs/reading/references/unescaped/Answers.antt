@@ -1,4 +1,4 @@
-use Rattle.std.proofs.Common.{◌≡◌, ◌∙◌, ap, sym, suc, length, true, Some}
+use Rattle.std.proofs.Common.{ap, sym, suc, length, Some}
 use Rattle.std.proofs.lemmas.Result.{err_from_is_err_and}
 use Rattle.nm_writer.specs.Reading.{◌>>=◌, is_left, byte_at, many_at, unescaped}
 use Rattle.nm_writer.proofs.Many.{begins, goes_on, stops, fails, fails_then}
