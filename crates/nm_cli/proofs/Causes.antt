@@ -5,7 +5,7 @@ use Rattle.std.specs.Option.{option_map}
 use Rattle.nm_statement.specs.Set.{has}
 use Rattle.nm_statement.specs.declared.set.Change.{Change}
 use Rattle.nm_statement.specs.declared.statement.Statement.{Statement}
-use Rattle.nm_cli.specs.Replay.{Cause, causes, first_of, first_cause}
+use Rattle.nm_cli.specs.Replay.{Cause, first_of, first_cause}
 use Rattle.nm_cli.specs.declared.refusal.Part.{Part}
 use Rattle.nm_cli.specs.declared.refusal.Part.TheVariants.{Precondition, Reverse, Forward}
 

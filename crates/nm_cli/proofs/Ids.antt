@@ -12,7 +12,7 @@ use Rattle.std.specs.List.Sorted.{IsSorted}
 use Rattle.std.specs.Ordering.{eq_by_cmp}
 use Rattle.std.specs.declared.cmp.Ordering.TheVariants.{Less, Equal, Greater}
 use Rattle.std.proofs.Common.{arith}
-use Rattle.nm_ident.proofs.Rising.{rising_of, rising_of-is, has-dedup, has_by}
+use Rattle.nm_ident.proofs.Rising.{rising_of, rising_of-is, has-dedup}
 use Rattle.nm_model.specs.Header.{rising_ids}
 
 number_tie : (x y : ℕ) (o : Ordering) → o ≡ nat_cmp x y → o ≡ Equal → x ≡ y

@@ -1,5 +1,5 @@
 -- When a filing is refused, and what a store keeps.
-use Rattle.std.proofs.Common.{◌≡◌, ◌∙◌, ◌↔◌, ℕ, ◌+◌, ◌<◌, ◌≤◌, List, [], ◌∷◌, ◌++◌, Bool, true, false, IsTrue, Contains, length, map, sum_by, Option, None, Some, nat_eq, nat_lt, nat_le, ◌==◌, ◌||◌, if◌then◌else◌, refl, sym, ap, arith, rules}
+use Rattle.std.proofs.Common.{◌≡◌, ◌∙◌, ◌↔◌, ℕ, ◌+◌, ◌<◌, ◌≤◌, List, [], ◌∷◌, ◌++◌, Bool, true, false, IsTrue, Contains, length, map, sum_by, Option, None, Some, nat_eq, nat_lt, nat_le, ◌||◌, if◌then◌else◌, refl, sym, ap, arith}
 use Rattle.std.proofs.lemmas.Bool.Decides.{nat_tests}
 use Rattle.std.proofs.lemmas.List.{length-map, map-append}
 use Rattle.std.proofs.lemmas.List.Sums.{sum_by-append}
@@ -9,11 +9,10 @@ use Rattle.std.specs.List.{list_any}
 use Rattle.nm_base.specs.declared.outcome.Limit.TheVariants.{L4, L6}
 use Rattle.nm_model.specs.declared.document.Difference.{Difference}
 use Rattle.nm_model.specs.declared.document.Full.{Full}
-use Rattle.nm_cli.specs.Filed.{kept_of, projects_of, entries_of, entry_of}
+use Rattle.nm_cli.specs.Filed.{kept_of, entries_of, entry_of}
 use Rattle.nm_cli.specs.Kept.{Entry, Kept, number_of, size_of}
 use Rattle.nm_cli.specs.Refusal.{has_id, is_in_use, room_refusal, refusal_of, first_refusal, step_refusal, live_with, IsDue}
 use Rattle.nm_cli.specs.Replay.{first_break, steps_of}
-use Rattle.nm_cli.specs.declared.project.Project.{Project}
 use Rattle.nm_cli.specs.declared.refusal.Break.{Break}
 use Rattle.nm_cli.specs.declared.refusal.Refusal.{Refusal}
 use Rattle.nm_cli.specs.declared.refusal.Refusal.TheVariants as refusal

@@ -1,9 +1,6 @@
--- The reply to a filing that is refused, and how long a document is.
-use Rattle.std.proofs.Common.{◌≡◌, ◌≢◌, ◌∙◌, ℕ, ◌≤◌, List, Bool, true, false, length, nat_le, Option, None, Some, Result, Ok, Err, IfOk, OnOk, if◌then◌else◌, refl, sym, ap, arith}
-use Rattle.std.proofs.lemmas.Bool.Decides.{nat_tests}
+-- The reply to a filing that is refused.
+use Rattle.std.proofs.Common.{◌≡◌, ◌≢◌, ◌∙◌, ℕ, List, Option, Some, Result, Ok, Err, IfOk, OnOk, refl, sym, ap}
 use Rattle.nm_model.specs.declared.document.Difference.{Difference}
-use Rattle.nm_model.specs.declared.document.Document.{Document}
-use Rattle.nm_writer.specs.Reading.{canonical_model}
 use Rattle.nm_cli.specs.Kept.{Kept}
 use Rattle.nm_cli.specs.Refusal.{IsDue, refusal_of}
 use Rattle.nm_cli.specs.Reply.{refused_reply}
@@ -29,15 +26,3 @@ refused_turn items kept new day difference bytes given (Ok out) due same text sa
     in
     (text ∙ sym (ap (λ (t : Turn). t.reply) turn), ap Store same ∙ sym (ap (λ (t : Turn). t.state) turn))
 refused_turn items kept new day difference bytes given (Err e) due same text said = tt
-
-limited : (b : Bool) (x : Option Document) (model : Document) → (if b then x else None) ≡ Some model → b ≡ true
-limited true x model e = refl
-limited false x model e = absurd (let wrong = e in cc)
-
-at_most : (m n : ℕ) → nat_le m n ≡ true → m ≤ n
-at_most m n h = grind (arith, nat_tests)
-
--- a document has at most 67,108,864 bytes
-pub canonical-length : (bytes : List ℕ) (model : Document) → canonical_model bytes ≡ Some model → length bytes ≤ 67108864
-unfolding canonical_model
-canonical-length bytes model e = at_most (length bytes) 67108864 (limited (nat_le (length bytes) 67108864) _ model e)

@@ -1,6 +1,6 @@
 -- The model of a day: the base changed by the steps in service. Of the base's header it has what tells where
 -- and by whom the model was made, its profiles and its dependencies.
-use Rattle.std.specs.Prelude.{ℕ, List, [], ◌∷◌, ◌++◌, Option, None, Some, codes, map, take}
+use Rattle.std.specs.Prelude.{ℕ, List, [], ◌∷◌, ◌++◌, None, Some, codes, map, take}
 use Rattle.std.specs.List.{flat_map}
 use Rattle.std.specs.Int.{w128, to_be_bytes, from_be_bytes}
 use Rattle.sha1.specs.Sha1.{sha1}

@@ -1,5 +1,5 @@
 -- What the store keeps: a base with its bytes, the live projects, and the accepted commands.
-use Rattle.std.specs.Prelude.{◌≡◌, ℕ, ◌+◌, List, [], ◌∷◌, length, map, sum_by}
+use Rattle.std.specs.Prelude.{◌≡◌, ℕ, ◌+◌, List, [], ◌∷◌, length, sum_by}
 use Rattle.nm_model.specs.declared.document.Full.{Full}
 use Rattle.nm_cli.specs.declared.project.Project.{Project}
 

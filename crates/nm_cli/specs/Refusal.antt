@@ -4,7 +4,7 @@ use Rattle.std.specs.List.{list_any}
 use Rattle.nm_base.specs.declared.outcome.Limit.TheVariants.{L4, L6}
 use Rattle.nm_model.specs.Header.{dependencies_of}
 use Rattle.nm_model.specs.declared.document.Difference.{Difference}
-use Rattle.nm_cli.specs.Kept.{Entry, Kept, number_of, size_of}
+use Rattle.nm_cli.specs.Kept.{Kept, number_of, size_of}
 use Rattle.nm_cli.specs.Replay.{steps_of, first_break}
 use Rattle.nm_cli.specs.declared.project.Project.{Project}
 use Rattle.nm_cli.specs.declared.refusal.Break.{Break}

@@ -1,5 +1,5 @@
 -- Command lines, without their line feed.
-use Rattle.std.specs.Prelude.{ℕ, List, [], ◌∷◌, length, take, drop, Bool, ◌&&◌, ◌||◌, ◌==◌, nat_lt, nat_eq, slice_index, Option, None, Some, codes, if◌then◌else◌}
+use Rattle.std.specs.Prelude.{ℕ, List, length, take, drop, Bool, ◌&&◌, ◌||◌, ◌==◌, nat_lt, nat_eq, slice_index, Option, None, Some, codes, if◌then◌else◌}
 use Rattle.std.specs.List.{starts_with}
 use Rattle.std.specs.Option.{option_map}
 use Rattle.nm_ident.specs.Name.{same_text}

@@ -1,9 +1,8 @@
 use Rattle.std.proofs.Common.{◌≡◌, ◌≤◌, ◌∙◌, length, sym, ap, arith}
-use Rattle.nm_cli.proofs.Turns.{canonical-length}
 use Rattle.nm_cli.proofs.filing.take_base.Goals as goal
 
 pub open-requires : goal.open-requires
 open-requires c =
     let text : length c.of_list.result ≡ length c.deref.result.now = ap length (c.of_list.ensures ∙ sym c.deref.ensures.value) in
-    let limit : length c.deref.result.now ≤ 67108864 = canonical-length c.deref.result.now _ c.in-Ok-Full.ensures in
+    let limit : length c.deref.result.now ≤ 67108864 = c.in-Ok-Full.ensures.found.short in
     omega (arith, text, limit)
