@@ -1,0 +1,42 @@
+//! `nm`, the store of power network models: real streams, and the forms of the command line over
+//! them.
+#![tactic(auto)]
+
+use nm_base::{ReadSource, Status, WriteSink};
+use nm_cli::run;
+use std::env;
+use std::env::Env;
+use std::io;
+use std::process::ExitCode;
+
+fn main(rt: HostRuntime) -> io::Result<ExitCode> {
+    let status = match words(&rt) {
+        Ok(words) => {
+            let mut input = ReadSource::new(rt.stdin());
+            let mut output = WriteSink::new(rt.stdout());
+            run(rt.alloc(), &words, &mut input, &mut output)
+        }
+        Err(error) => status_of(error),
+    };
+    if status == Status::Usage {
+        eprintln!(rt; "usage: nm session")?;
+    }
+    Ok(ExitCode::from(status as u8))
+}
+
+/// The words after the program's name.
+fn words<R: Env + Alloc>(rt: &R) -> io::Result<Vec<String<R::A>, R::A>> {
+    let mut words = Vec::new(rt.alloc());
+    for word in env::args(rt)?.skip(1) {
+        words.push(word)?;
+    }
+    Ok(words)
+}
+
+/// The status where the words could not be had: one that is not UTF-8 is no form's.
+fn status_of(error: io::Error) -> Status {
+    match error.kind() {
+        io::ErrorKind::InvalidData => Status::Usage,
+        _ => Status::NoMemory,
+    }
+}

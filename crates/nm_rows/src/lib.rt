@@ -1,0 +1,10 @@
+//! Whole sessions, as tests over memory: what the crates do together, and that they have memory
+//! enough to do it.
+#![tactic(auto)]
+
+#[cfg(test)]
+mod large;
+#[cfg(test)]
+mod sessions;
+#[cfg(test)]
+mod tests;
