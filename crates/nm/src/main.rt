@@ -4,10 +4,9 @@
 
 use nm_base::{ReadSource, Status, WriteSink};
 use nm_cli::run;
-use std::env;
 use std::env::Env;
-use std::io;
 use std::process::ExitCode;
+use std::{env, io};
 
 fn main(rt: HostRuntime) -> io::Result<ExitCode> {
     let status = match words(&rt) {
