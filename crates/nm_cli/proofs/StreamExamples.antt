@@ -1,15 +1,47 @@
 -- Short streams, with their replies and endings.
-use Rattle.std.proofs.Common.{◌≡◌, [], ◌∷◌, ◌++◌, codes, Some, true, false, refl, lit<, lit≤}
+use Rattle.std.proofs.Common.{◌≡◌, ℕ, List, [], ◌∷◌, ◌++◌, codes, Some, true, false, refl, lit<, lit≤}
 use Rattle.std.specs.Prelude.{replicate}
 use Rattle.nm_base.specs.declared.outcome.Status.TheVariants.{Done, ReadFault, Cut}
 use Rattle.nm_cli.specs.Answered.{AppendsPrefix, HasCause}
 use Rattle.nm_cli.specs.CommandLine.{is_session}
 use Rattle.nm_cli.specs.Day.{day_of}
 use Rattle.nm_cli.specs.Input.{GivesLine}
+use Rattle.nm_cli.specs.Kept.{Kept}
 use Rattle.nm_cli.specs.Reply.{numbered}
-use Rattle.nm_cli.specs.Stream.{outcome, outcome_within, bad_line, short}
+use Rattle.nm_cli.specs.Stream.{Command, next_in, outcome, outcome_within, bad_line, short}
 use Rattle.nm_cli.specs.Word.{length_of, dated_line}
-use Rattle.nm_cli.specs.declared.turn.State.TheVariants.{Empty}
+use Rattle.nm_cli.specs.declared.turn.State.TheVariants.{Empty, Store}
+use Rattle.nm_cli.specs.declared.word.Word.TheVariants.{Base, Assemble, End}
+
+-- ---- how a stream is cut: a base, the model of a day, and the end
+
+base_document : List ℕ
+base_document =
+    codes "<?xml version=\"1.0\" encoding=\"UTF-8\"?>" ++ 10
+    ∷ codes "<rdf:RDF xmlns:rdf=\"http://www.w3.org/1999/02/22-rdf-syntax-ns#\" xmlns:md=\"http://iec.ch/TC57/61970-552/ModelDescription/1#\" xmlns:cim=\"http://iec.ch/TC57/2013/CIM-schema-cim16#\">" ++ 10
+    ∷ codes "<md:FullModel rdf:about=\"urn:uuid:10000000-0000-4000-8000-000000000001\">" ++ 10
+    ∷ codes "</md:FullModel>" ++ 10
+    ∷ codes "<cim:Substation rdf:ID=\"_20000000-0000-4000-8000-000000000001\">" ++ 10
+    ∷ codes "<cim:IdentifiedObject.name>North</cim:IdentifiedObject.name>" ++ 10
+    ∷ codes "</cim:Substation>" ++ 10
+    ∷ codes "</rdf:RDF>" ++ 10
+    ∷ []
+
+behind_base : List ℕ
+behind_base = codes "assemble 2027-01-01" ++ 10 ∷ codes "end" ++ 10 ∷ []
+
+base_comes : next_in Empty (codes "base 462" ++ 10 ∷ base_document ++ behind_base) ≡ Command (Base 462) base_document behind_base
+unfolding length_of base_document behind_base
+base_comes = refl
+
+day_comes : (kept : Kept) → next_in (Store kept) behind_base ≡ Command (Assemble (codes "2027-01-01")) [] (codes "end" ++ 10 ∷ [])
+unfolding dated_line day_of behind_base
+day_comes kept = refl
+
+end_comes : (kept : Kept) → next_in (Store kept) (codes "end" ++ 10 ∷ []) ≡ Command End [] []
+end_comes kept = refl
+
+-- ---- short streams
 
 -- a session of nothing but its end; what follows the end is not looked at
 only_end : outcome (codes "end" ++ 10 ∷ codes "?") ≡ record { replies = numbered (codes "end") 0; ending = Done }

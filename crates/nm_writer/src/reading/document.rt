@@ -27,7 +27,7 @@ const ROOT: &[u8] =
 /// The declaration that a difference model's document has.
 const DIFFERENCE: &[u8] = b" xmlns:dm=\"http://iec.ch/TC57/61970-552/DifferenceModel/1#\"";
 
-/// The model whose canonical document the bytes are: no other has this document.
+/// The model whose canonical document the bytes are. No other sound model within the limits has it.
 ///
 /// `NotCanonical` comes exactly where they are no canonical document of a sound model within the
 /// limits on a document's bytes, statements, texts and header, whose header has no property but
