@@ -1,6 +1,5 @@
 pub mod Numerals
 pub mod Causes
-pub mod Ids
 pub mod Insertion
 pub mod Steps
 pub mod Refusals

@@ -5,13 +5,11 @@ use Rattle.std.proofs.lemmas.Int.Digits.{digits_value_push}
 use Rattle.std.proofs.lemmas.List.{take_more}
 use Rattle.std.proofs.lemmas.List.Folds.{list_all_more}
 use Rattle.std.proofs.lemmas.Str.Parse.{digits_value-take-le}
-use Rattle.std.specs.Char.{is_ascii_digit, digit_value}
+use Rattle.std.specs.Char.{is_ascii_digit}
 use Rattle.std.specs.List.{list_all}
 use Rattle.std.specs.Str.Parse.{digits_value}
+use Rattle.nm_writer.proofs.Numbers.{digit_is}
 use Rattle.nm_cli.specs.Digits.{number_within}
-
-digit_is : (byte : ℕ) → is_ascii_digit byte ≡ true → digit_value byte ≡ byte - 48
-digit_is byte holds = grind (arith, nat_tests)
 
 -- the number of one digit more
 pub value_more : (ds : List ℕ) (i : ℕ) → i < length ds → is_ascii_digit (get_or ds i 0) ≡ true → digits_value 10 (take (i + 1) ds) ≡ digits_value 10 (take i ds) * 10 + (get_or ds i 0 - 48)
@@ -26,7 +24,7 @@ digits_more ds i within front holds = list_all_more is_ascii_digit ds i 0 within
 none_if : (fits : Bool) (value : ℕ) → fits ≡ false → None ≡ (if fits then Some value else None)
 none_if fits value e = rw e refl
 
-and_false : (a b : Bool) → b ≡ false → (a && b) ≡ false
+pub and_false : (a b : Bool) → b ≡ false → (a && b) ≡ false
 and_false true b e = e
 and_false false b e = refl
 

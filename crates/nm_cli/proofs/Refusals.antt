@@ -7,6 +7,7 @@ use Rattle.std.proofs.lemmas.Map.Views.{Contains-from_any, list_any-from_Contain
 use Rattle.std.specs.Cmp.{IsEquivalence}
 use Rattle.std.specs.List.{list_any}
 use Rattle.nm_base.specs.declared.outcome.Limit.TheVariants.{L4, L6}
+use Rattle.nm_ident.proofs.Rising.{same_answers}
 use Rattle.nm_model.specs.declared.document.Difference.{Difference}
 use Rattle.nm_model.specs.declared.document.Full.{Full}
 use Rattle.nm_cli.specs.Filed.{kept_of, entries_of, entry_of}
@@ -19,11 +20,6 @@ use Rattle.nm_cli.specs.declared.refusal.Refusal.TheVariants as refusal
 use Rattle.nm_cli.specs.declared.store.Filed.{Filed}
 
 -- ---- ids in use
-
-same_answers : (s t : Bool) → (s ≡ true → t ≡ true) → (t ≡ true → s ≡ true) → s ≡ t
-same_answers true t f g = sym (f refl)
-same_answers false true f g = g refl
-same_answers false false f g = refl
 
 numbers_same : (x y : ℕ) → nat_eq x y ≡ true → x ≡ y
 numbers_same x y h = grind (arith, nat_tests)

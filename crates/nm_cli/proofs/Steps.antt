@@ -1,5 +1,5 @@
 -- Projects in the order of steps.
-use Rattle.std.proofs.Common.{◌≡◌, ◌∙◌, ℕ, ◌+◌, ◌<◌, List, [], ◌∷◌, ◌++◌, Bool, true, false, ◌&&◌, length, map, Bor, IsPermutation, Ordering, nat_cmp, refl, sym, ap, arith}
+use Rattle.std.proofs.Common.{◌≡◌, ◌∙◌, ℕ, ◌+◌, ◌<◌, List, [], ◌∷◌, ◌++◌, false, length, map, Bor, IsPermutation, Ordering, nat_cmp, refl, sym, ap, arith}
 use Rattle.std.proofs.lemmas.Bool.Decides.{nat_tests}
 use Rattle.std.proofs.lemmas.Cmp.{nat_cmp_total, nat_list_cmp_total, on_total, then_total}
 use Rattle.std.specs.BTreeSet.{insert_key}
@@ -9,6 +9,7 @@ use Rattle.std.specs.List.Sorted.{IsSorted}
 use Rattle.std.specs.Ordering.{eq_by_cmp, is_eq}
 use Rattle.nm_ident.specs.Order.{text_cmp}
 use Rattle.nm_ident.proofs.Rising.{rising_of}
+use Rattle.nm_cli.proofs.Numerals.{and_false}
 use Rattle.nm_cli.proofs.Insertion.{map-insert_key, sort_is}
 use Rattle.nm_cli.specs.Kept.{IsFiledFrom}
 use Rattle.nm_cli.specs.Replay.{step_cmp, steps_of}
@@ -34,10 +35,6 @@ not_level x y below =
     sym (tied_then (text_cmp x.day y.day) (nat_cmp x.filing y.filing))
     ∙ and_false (is_eq (text_cmp x.day y.day)) (is_eq (nat_cmp x.filing y.filing)) (apart x.filing y.filing below)
   where
-    and_false : (a b : Bool) → b ≡ false → (a && b) ≡ false
-    and_false true b e = e
-    and_false false b e = refl
-
     apart : (m n : ℕ) → m < n → is_eq (nat_cmp m n) ≡ false
     apart m n h = grind (arith, nat_tests)
 

@@ -12,22 +12,11 @@ use nm_ident::id_text;
 use nm_statement::line;
 use std::alloc::Global;
 
-/// Appends the pieces, one after the other.
-pub fn append_all(out: &mut Vec<u8>, pieces: &[&[u8]]) -> Result<(), NoMemory>
-    ensures { OnOk result (out.new.items ≡ out.old.items ++ flat_map (λ piece. piece.now) pieces.now) }
-{
-    for piece in pieces {
-        out.extend_from_slice(piece)?;
-    }
-    Ok(())
-}
-
 /// A line of these pieces.
 pub fn line_of(alloc: Global, pieces: &[&[u8]]) -> Result<Vec<u8>, NoMemory>
     ensures { IfOk result (λ line. line.items ≡ spec.reply_line (flat_map (λ piece. piece.now) pieces.now)) }
 {
-    let mut out = Vec::new(alloc);
-    append_all(&mut out, pieces)?;
+    let mut out = pieces.concat(alloc)?;
     out.push(b'\n')?;
     Ok(out)
 }
@@ -71,7 +60,8 @@ fn append_count(alloc: Global, out: &mut Vec<u8>, name: &[u8], count: usize) -> 
     ensures { OnOk result (out.new.items ≡ out.old.items ++ name.now ++ decimal count) }
 {
     let digits = (count as u64).to_string(alloc)?;
-    append_all(out, &[name, digits.as_bytes()])
+    out.extend_from_slice(name)?;
+    out.extend_from_slice(digits.as_bytes())
 }
 
 /// The reply to a command that is refused. For want of memory there is none.

@@ -1,7 +1,7 @@
 -- The orders are total, tell all values apart, and are those of the types' `cmp`.
-use Rattle.std.proofs.Common.{◌≡◌, ◌∙◌, ℕ, List, refl, subst, ap}
-use Rattle.std.proofs.lemmas.Cmp.{ranked}
-use Rattle.std.specs.Cmp.{IsTotalOrder}
+use Rattle.std.proofs.Common.{◌≡◌, ◌∙◌, ℕ, List, true, refl, subst, ap}
+use Rattle.std.proofs.lemmas.Bool.{eqb-true}
+use Rattle.std.specs.Cmp.{IsTotalOrder, unsigned_ties}
 use Rattle.std.specs.Cmp.Lexicographic.{bytes_decides, texts_ties}
 use Rattle.std.specs.Ordering.{is_eq, nat_cmp, ordering_then}
 use Rattle.std.specs.declared.cmp.Ordering.{Ordering}
@@ -46,13 +46,8 @@ target_cmp-total = subst IsTotalOrder (λ i x y. derived-target_cmp x y i) targe
 pub name_cmp-total : IsTotalOrder name_cmp
 name_cmp-total = subst IsTotalOrder (λ i x y. derived-name_cmp x y i) name_laws.total-law
 
-number_tie : (x y : ℕ) (o : Ordering) → o ≡ nat_cmp x y → o ≡ Equal → x ≡ y
-number_tie x y Less ranks tie = cc
-number_tie x y Equal ranks tie = ranked x y Equal ranks
-number_tie x y Greater ranks tie = cc
-
-nat_cmp-equal : (x y : ℕ) → nat_cmp x y ≡ Equal → x ≡ y
-nat_cmp-equal x y tie = number_tie x y (nat_cmp x y) refl tie
+pub nat_cmp-equal : (x y : ℕ) → nat_cmp x y ≡ Equal → x ≡ y
+nat_cmp-equal x y tie = eqb-true x y (unsigned_ties x y ∙ ap is_eq tie)
 
 -- values that stand level are the same value
 pub text_cmp-equal : (x y : List ℕ) → text_cmp x y ≡ Equal → x ≡ y
@@ -70,7 +65,12 @@ target_cmp-equal (target.Ident x) (target.Iri y) tie = cc
 target_cmp-equal (target.Iri x) (target.Ident y) tie = cc
 target_cmp-equal (target.Iri x) (target.Iri y) tie = ap target.Iri (text_cmp-equal x y tie)
 
-then_equal : (first second : Ordering) → ordering_then first second ≡ Equal → (first ≡ Equal) × (second ≡ Equal)
+pub equal_from : (order : Ordering) → is_eq order ≡ true → order ≡ Equal
+equal_from Less e = cc
+equal_from Equal e = refl
+equal_from Greater e = cc
+
+pub then_equal : (first second : Ordering) → ordering_then first second ≡ Equal → (first ≡ Equal) × (second ≡ Equal)
 then_equal Less second tie = absurd cc
 then_equal Equal second tie = (refl, tie)
 then_equal Greater second tie = absurd cc

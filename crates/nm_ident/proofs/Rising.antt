@@ -25,7 +25,7 @@ or_swap true true c = refl
 or_swap true false c = refl
 or_swap false b c = refl
 
-same_answers : (s t : Bool) → (s ≡ true → t ≡ true) → (t ≡ true → s ≡ true) → s ≡ t
+pub same_answers : (s t : Bool) → (s ≡ true → t ≡ true) → (t ≡ true → s ≡ true) → s ≡ t
 same_answers true t f g = sym (f refl)
 same_answers false true f g = g refl
 same_answers false false f g = refl
@@ -40,7 +40,7 @@ or_around false false true a found = refl
 or_around false false false a true = refl
 or_around false false false a false = refl
 
-one_plus : (n : ℕ) → 1 + n ≡ suc n
+pub one_plus : (n : ℕ) → 1 + n ≡ suc n
 one_plus n = omega arith
 
 not_not : (b : Bool) → not b ≡ false → b ≡ true

@@ -15,6 +15,7 @@ use Rattle.nm_statement.specs.contracts.statement.StatementPartialOrd.TheImpl as
 use Rattle.nm_statement.specs.declared.statement.Statement.{Statement}
 use Rattle.nm_statement.proofs.Orders.{statement_cmp-total, statement_cmp-equal, derived-eq, derived-statement_cmp}
 use Rattle.nm_statement.proofs.Sets.{set_of-is, set_of-rising}
+use Rattle.nm_ident.proofs.Orders.{equal_from}
 use Rattle.nm_ident.proofs.Rising.{minus_step, union_step, counted_below, stops_at, above_first, above_all, rising_back}
 
 -- where a search ends, or else the length
@@ -48,11 +49,6 @@ module _ (xs : List Statement) (x : Statement) (n : ℕ) (counted : n ≡ positi
       others_above same =
           let equal : first ≡ x = statement_cmp-equal first x (equal_from (statement_cmp first x) (sym (derived-eq first x) ∙ same)) in
           (equal, above_first statement_cmp-total x others (subst (λ s. IsRising (s ∷ others)) equal (subst IsRising begins rest_rises)))
-        where
-          equal_from : (r : Ordering) → is_eq r ≡ true → r ≡ Equal
-          equal_from Less h = cc
-          equal_from Equal h = refl
-          equal_from Greater h = cc
 
       -- the first is above x, and so are all
       pub all_above : statement_eq.ghosts.eq first x ≡ false → AllByRecursion (λ s. statement_cmp x s ≡ Less) rest

@@ -2,9 +2,8 @@
 use Rattle.std.proofs.Common.{◌≡◌, ◌∙◌, refl, subst, ap}
 use Rattle.std.specs.Cmp.{IsTotalOrder}
 use Rattle.std.specs.Ordering.{eq_by_cmp, is_eq, ordering_then}
-use Rattle.std.specs.declared.cmp.Ordering.{Ordering}
-use Rattle.std.specs.declared.cmp.Ordering.TheVariants.{Less, Equal, Greater}
-use Rattle.nm_ident.proofs.Orders.{ident_cmp-equal, name_cmp-equal, text_cmp-equal, derived-ident_cmp}
+use Rattle.std.specs.declared.cmp.Ordering.TheVariants.{Equal}
+use Rattle.nm_ident.proofs.Orders.{ident_cmp-equal, name_cmp-equal, text_cmp-equal, then_equal, derived-ident_cmp}
 use Rattle.nm_ident.specs.Order.{ident_cmp, name_cmp}
 use Rattle.nm_statement.specs.Order.{object_cmp, statement_cmp}
 use Rattle.nm_statement.specs.contracts.object.ObjectOrd.TheImpl as object_ord
@@ -50,11 +49,6 @@ object_cmp-equal (Resource x) (Iri y) tie = cc
 object_cmp-equal (Iri x) (Literal y) tie = cc
 object_cmp-equal (Iri x) (Resource y) tie = cc
 object_cmp-equal (Iri x) (Iri y) tie = ap Iri (text_cmp-equal x y tie)
-
-then_equal : (first second : Ordering) → ordering_then first second ≡ Equal → (first ≡ Equal) × (second ≡ Equal)
-then_equal Less second tie = absurd cc
-then_equal Equal second tie = (refl, tie)
-then_equal Greater second tie = absurd cc
 
 pub statement_cmp-equal : (x y : Statement) → statement_cmp x y ≡ Equal → x ≡ y
 statement_cmp-equal x y tie =

@@ -2,8 +2,7 @@
 use Rattle.std.proofs.Common.{◌≡◌, ◌∙◌, ℕ, ◌≤◌, Bool, true, false, ◌&&◌, List, ◌∷◌, [], length, Option, None, Some, Result, Ok, Err, refl, sym, ap, subst, codes, ◌++◌}
 use Rattle.std.specs.Prelude.{IfOk, nat_le, if◌then◌else◌}
 use Rattle.std.proofs.lemmas.Bool.{le-leb, leb-true}
-use Rattle.std.proofs.lemmas.Bool.Decides.{Decides-eqb}
-use Rattle.std.proofs.lemmas.Slice.Eq.{slice_eq-Decides}
+use Rattle.std.specs.Cmp.Lexicographic.{bytes_decides}
 use Rattle.nm_ident.specs.Name.{same_text}
 use Rattle.nm_model.specs.Sound.{is_kept}
 use Rattle.nm_model.specs.declared.document.Difference.{Difference}
@@ -114,12 +113,6 @@ judged bytes model found is = by (is_kept model) (same_text (canonical_of model)
     by true false kept same given = absurd cc
     by false same kept is_same given = absurd cc
 
-same_bytes : (x y : List ℕ) → same_text x y ≡ true → x ≡ y
-same_bytes x y same = (slice_eq-Decides Decides-eqb x y (same_text x y) refl).0 same
-
-itself : (x : List ℕ) → same_text x x ≡ true
-itself x = (slice_eq-Decides Decides-eqb x x (same_text x x) refl).1 refl
-
 -- what is given is a model whose canonical document the bytes are
 pub canonical_found : (bytes : List ℕ) (model : Document) → canonical_model bytes ≡ Some model → IsCanonicalOf model bytes
 unfolding canonical_model
@@ -132,7 +125,7 @@ canonical_found bytes model is = by (nat_le (length bytes) 67108864) refl is
           kept = found.1;
           plain = within_at IsPlain (document_at bytes) read (document_plain bytes) given;
           short = short;
-          spelt = same_bytes (canonical_of read) bytes found.2;
+          spelt = (bytes_decides (canonical_of read) bytes).0 found.2;
         })
 
     by : (short : Bool) → nat_le (length bytes) 67108864 ≡ short → (if short then (document_at bytes >>= if_canonical bytes) else None) ≡ Some model → IsCanonicalOf model bytes
@@ -146,7 +139,7 @@ pub canonical_only : (bytes : List ℕ) (model : Document) → IsCanonicalOf mod
 unfolding canonical_model
 canonical_only bytes model is =
     let read : document_at bytes ≡ Some model = ap document_at (sym is.spelt) ∙ document_again model is.kept is.plain in
-    let same : same_text (canonical_of model) bytes ≡ true = ap (same_text (canonical_of model)) (sym is.spelt) ∙ itself (canonical_of model) in
+    let same : same_text (canonical_of model) bytes ≡ true = ap (same_text (canonical_of model)) (sym is.spelt) ∙ (bytes_decides (canonical_of model) (canonical_of model)).1 refl in
     rw (le-leb (length bytes) 67108864 is.short, read, is.kept, same) refl
 
 -- ---- answers

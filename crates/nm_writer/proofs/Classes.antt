@@ -1,11 +1,12 @@
 -- The class that an IRI names, and the type that names an element.
-use Rattle.std.proofs.Common.{◌≡◌, ℕ, suc, ◌+◌, ◌-◌, ◌<◌, List, [], ◌∷◌, ◌++◌, take, drop, length, reverse, arith, Bool, true, false, not, ◌&&◌, cond, None, Some, Ordering, nat_lt, position, sym, ◌∙◌, ap, refl, codes, append_assoc, if◌then◌else◌, take-append-drop, append-nil, ltb-true, ltb-false, length-drop, drop_at, take_at}
+use Rattle.std.proofs.Common.{◌≡◌, ℕ, ◌+◌, ◌-◌, ◌<◌, List, [], ◌∷◌, ◌++◌, take, drop, length, reverse, arith, Bool, true, false, not, ◌&&◌, cond, None, Some, Ordering, nat_lt, position, sym, ◌∙◌, ap, refl, codes, append_assoc, if◌then◌else◌, take-append-drop, append-nil, ltb-true, ltb-false, length-drop, drop_at, take_at}
 use Rattle.std.specs.declared.cmp.Ordering.TheVariants.{Less, Equal, Greater}
 use Rattle.std.specs.Ordering.{is_eq, ordering_then}
 use Rattle.std.specs.Cmp.Lexicographic.{texts_ties}
 use Rattle.std.specs.List.{position_or_len}
 use Rattle.std.proofs.lemmas.List.{reverse-append, reverse-reverse, length-reverse}
 use Rattle.std.proofs.lemmas.List.Sums.{prefix_len-le-length}
+use Rattle.nm_ident.proofs.Rising.{one_plus}
 use Rattle.nm_ident.specs.Name.{ends_namespace, is_predicate, same_text, rdf_namespace, type_name}
 use Rattle.nm_ident.specs.Order.{name_cmp, text_cmp}
 use Rattle.nm_ident.specs.QualifiedName.{QualifiedName}
@@ -25,9 +26,6 @@ is_type-is name =
     ∙ (λ i. sym (texts_ties name.ns rdf_namespace) i && sym (texts_ties name.local (codes "type")) i)
 
 -- ---- the last `#` or `/`
-
-one_plus : (n : ℕ) → 1 + n ≡ suc n
-one_plus n = omega arith
 
 reverse-cons : (x : ℕ) (xs : List ℕ) → reverse (x ∷ xs) ≡ reverse xs ++ x ∷ []
 reverse-cons x xs = reverse-append (x ∷ []) xs

@@ -6,16 +6,14 @@ use Rattle.std.specs.List.{AllByRecursion, prefix_len}
 use Rattle.std.specs.List.Sorted.{IsStrictlySortedBy}
 use Rattle.std.proofs.lemmas.Cmp.{alike_right, tied_itself}
 use Rattle.std.proofs.lemmas.List.Elements.{filter-append}
-use Rattle.nm_ident.proofs.Orders.{ident_cmp-total, ident_cmp-equal}
+use Rattle.nm_ident.proofs.Orders.{ident_cmp-total, ident_cmp-equal, equal_from}
+use Rattle.nm_ident.proofs.Rising.{one_plus}
 use Rattle.nm_ident.specs.Order.{ident_cmp, name_cmp}
 use Rattle.nm_ident.specs.declared.ident.Ident.{Ident}
 use Rattle.nm_statement.specs.Order.{statement_cmp, object_cmp}
 use Rattle.nm_statement.specs.Set.{IsRising}
 use Rattle.nm_statement.specs.declared.statement.Statement.{Statement}
 use Rattle.nm_writer.specs.Canonical.{group_length, is_about, own, subjects_of}
-
-one_plus : (n : ℕ) → 1 + n ≡ suc n
-one_plus n = omega arith
 
 -- ---- filters
 
@@ -68,11 +66,6 @@ less_from : (r : Ordering) → is_gt r ≡ false → is_eq r ≡ false → r ≡
 less_from Less g e = refl
 less_from Equal g e = cc
 less_from Greater g e = cc
-
-pub equal_from : (r : Ordering) → is_eq r ≡ true → r ≡ Equal
-equal_from Less e = cc
-equal_from Equal e = refl
-equal_from Greater e = cc
 
 not_gt_then : (first second : Ordering) → ordering_then first second ≡ Less → is_gt first ≡ false
 not_gt_then Less second e = refl

@@ -8,7 +8,7 @@ use Rattle.std.proofs.lemmas.Cmp.{tied_itself}
 use Rattle.std.proofs.lemmas.List.{reverse-append, reverse-reverse}
 use Rattle.std.proofs.lemmas.List.Folds.{list_any-append}
 use Rattle.std.proofs.lemmas.Map.Views.{any-filter_same}
-use Rattle.nm_ident.proofs.Orders.{ident_cmp-equal, ident_cmp-total, name_cmp-equal}
+use Rattle.nm_ident.proofs.Orders.{ident_cmp-equal, ident_cmp-total, name_cmp-equal, equal_from}
 use Rattle.nm_ident.specs.Name.{is_predicate, type_name}
 use Rattle.nm_ident.specs.Order.{ident_cmp, name_cmp}
 use Rattle.nm_ident.specs.QualifiedName.{QualifiedName}
@@ -22,7 +22,6 @@ use Rattle.nm_statement.specs.declared.statement.Statement.{Statement}
 use Rattle.nm_writer.specs.Canonical.{class_of, class_of_iri, class_of_object, element_of, is_about, or_else, own, properties_of, split_back, split_iri, subjects_of}
 use Rattle.nm_writer.specs.Reading.{stated, type_of_class}
 use Rattle.nm_writer.specs.Spaces.{is_rdf}
-use Rattle.nm_writer.proofs.Groups.{equal_from}
 use Rattle.nm_writer.proofs.Pieces.{some_is}
 use Rattle.nm_writer.proofs.PropertiesAgain.{seen_of}
 use Rattle.nm_ident.proofs.Rising.{or_swap}

@@ -61,9 +61,6 @@ found_place test xs any = (position_or_len test xs, rw (lt-ltb (position_or_len 
 abbrev holds : List (List ℕ) → List ℕ → Bool
 holds texts text = list_any (same_text text) texts
 
-itself : (text : List ℕ) → same_text text text ≡ true
-itself text = (bytes_decides text text).1 refl
-
 holds_is_has : (texts : List (List ℕ)) (text : List ℕ) → holds texts text ≡ has texts text
 holds_is_has texts text = λ i. list_any (λ (other : List ℕ). texts_ties text other i) texts
 
@@ -164,7 +161,7 @@ among_subjects subject (statement ∷ statements) any = by (is_eq (ident_cmp sub
 -- the namespace of what names an element is one of the classes'
 class_space : (statements : List Statement) (subject : Ident) (name : QualifiedName) → element_of (own statements subject) ≡ Some name → holds (class_spaces statements) name.ns ≡ true
 class_space statements subject name is =
-    let here : holds (element_space statements subject) name.ns ≡ true = ap (λ (class : Option QualifiedName). holds (space_of class) name.ns) is ∙ or_left (same_text name.ns name.ns) false (itself name.ns) in
+    let here : holds (element_space statements subject) name.ns ≡ true = ap (λ (class : Option QualifiedName). holds (space_of class) name.ns) is ∙ or_left (same_text name.ns name.ns) false ((bytes_decides name.ns name.ns).1 refl) in
     any_flat (λ (x : Ident). is_eq (ident_cmp subject x)) (element_space statements) name.ns
     (λ x same. subst (λ (y : Ident). holds (element_space statements y) name.ns ≡ true) (same_ident subject x same) here)
     (subjects_of statements) (among_subjects subject statements (element_is_stated (is_about subject) statements name is))
@@ -199,7 +196,7 @@ predicates_spelt spaces small (statement ∷ statements) sound declares =
     let parts = sound_first statement statements sound in
     let ns = statement.predicate.ns in
     let others = map (λ (other : Statement). other.predicate.ns) statements in (
-      spelt_name spaces statement.predicate parts.0 small (declares ns (or_left (same_text ns ns) (holds others ns) (itself ns))),
+      spelt_name spaces statement.predicate parts.0 small (declares ns (or_left (same_text ns ns) (holds others ns) ((bytes_decides ns ns).1 refl))),
       predicates_spelt spaces small statements parts.1 (back_declared spaces (ns ∷ []) others declares),
     )
 
