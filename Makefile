@@ -1,7 +1,7 @@
 NM = crates/nm/out/nm
 EXAMPLE = examples/base-and-day.session
 
-.PHONY: demo test bench slow install
+.PHONY: demo test bench install
 
 # Proves and builds the program where it is missing, and assembles a day of the example.
 demo: $(NM)
@@ -14,10 +14,6 @@ $(NM):
 test:
 	rt ci
 	tests/run
-
-# The checks that take longer than a few minutes, or much memory.
-slow: $(NM)
-	tests/run tests/slow/*.py
 
 bench: $(NM)
 	python3 bench/reading.py

@@ -1,16 +1,21 @@
 """Sixty projects and more over a base of 4,000 statements: every reply against the plain rules.
 
 Some filings are refused in each way that one command can be: by the kind, by an identifier in use,
-by each part of a step, and at the step of a project that was filed before. The limits are left to
-slow/. The stream is the same at each run.
+by each part of a step, and at the step of a project that was filed before. The limits have
+scripts of their own. The stream is the same at each run.
 
     python3 tests/projects.py stream      writes the stream
+    python3 tests/projects.py replies     writes projects.replies, by the plain rules
+
+The replies are kept in projects.replies, with each document as its SHA-256, so that a change of the
+plain rules shows.
 """
+import hashlib
 import re
 import sys
 
 import plain
-from harness import check, finish, first_difference, run
+from harness import TESTS, check, finish, first_difference, run
 from plain import CIM, TYPE, Difference, Full, Header, canonical
 
 GRID = b"http://example.org/grid#"
@@ -147,12 +152,31 @@ def stream() -> bytes:
     return b"".join(parts) + b"assemble 1900-01-01\nassemble 2999-12-31\nend\n"
 
 
+def in_short(replies: bytes) -> str:
+    """The lines of the replies, with each document as its SHA-256."""
+    lines, at = [], 0
+    while at < len(replies):
+        end = replies.index(b"\n", at)
+        line, at = replies[at:end].decode(), end + 1
+        lines.append(line)
+        if line.startswith("document "):
+            size = int(line.split()[1])
+            lines.append("  sha256 " + hashlib.sha256(replies[at:at + size]).hexdigest())
+            at += size
+    return "\n".join(lines) + "\n"
+
+
 def main() -> None:
     given = stream()
     if sys.argv[1:] == ["stream"]:
         sys.stdout.buffer.write(given)
         return
     wanted, status = plain.session(given)
+    kept = TESTS / "projects.replies"
+    if sys.argv[1:] == ["replies"]:
+        kept.write_text(in_short(wanted))
+        return
+    check("the plain rules give the replies that are kept", kept.read_text(), in_short(wanted))
     # What the stream is for, by the plain rules: a stream that meets no refusal would show nothing.
     for name, pattern, least in (
             ("accepted projects", rb"ok [1-9][0-9]*", 60), ("the kind", rb"refused kind", 6),
