@@ -1,7 +1,9 @@
-//! Whole sessions, as tests over memory: what the crates do together, and that they have memory
-//! enough to do it.
+//! Documents and whole sessions, as tests over memory: what the crates do together, and that they
+//! have memory enough to do it.
 #![tactic(auto)]
 
+#[cfg(test)]
+mod documents;
 #[cfg(test)]
 mod large;
 #[cfg(test)]
