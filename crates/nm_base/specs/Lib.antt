@@ -7,4 +7,5 @@ pub mod MemorySink
 pub mod SteadySink
 pub mod ReadSource
 pub mod WriteSink
+pub mod Status
 pub mod Examples

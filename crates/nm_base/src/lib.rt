@@ -14,6 +14,7 @@ pub use memory::{MemorySink, MemorySource};
 pub use outcome::{Limit, Status};
 pub use std::alloc::AllocError as NoMemory;
 pub use steady::{SteadySink, SteadySource};
+pub use steps::Steps;
 
 mod adapters;
 mod count;
@@ -23,5 +24,6 @@ mod outcome;
 mod plan;
 mod rest;
 mod steady;
+mod steps;
 #[cfg(test)]
 mod tests;

@@ -5,7 +5,7 @@ ghost use Rattle.nm_base.specs.Beside.{nothing_beside};
 ghost use Rattle.nm_base.specs.Faults.{CountsFaults};
 ghost use Rattle.nm_base.specs.Plan.{fails_next, Advances};
 ghost use Rattle.nm_base.specs.MemorySource.{supply_of};
-ghost use Rattle.nm_base.specs.MemorySink.{empty_store};
+ghost use Rattle.nm_base.specs.MemorySink.{empty_intake};
 
 use crate::flow::{Failed, Sink, Source};
 use crate::plan::FaultPlan;
@@ -73,9 +73,9 @@ pub struct MemorySink {
 }
 
 impl Model for MemorySink {
-    ghost use Rattle.nm_base.specs.MemorySink.{Store};
+    ghost use Rattle.nm_base.specs.MemorySink.{Intake};
 
-    ghost Value = { Store };
+    ghost Value = { Intake };
 
     ghost view = { λ s. record { written = s.bytes.items; plan = s.plan } };
 }
@@ -84,7 +84,7 @@ impl MemorySink {
     /// An empty sink. The calls of `write` whose numbers are in `fails` fail, where the first
     /// call is number 0.
     pub fn new(alloc: Global, fails: Vec<u32>) -> MemorySink
-        ensures { result ≡ empty_store fails.items }
+        ensures { result ≡ empty_intake fails.items }
     {
         MemorySink {
             bytes: Vec::new(alloc),

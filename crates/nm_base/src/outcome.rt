@@ -1,3 +1,6 @@
+ghost use Rattle.nm_base.specs.Status.{code_of};
+ghost use Rattle.std.specs.Prelude.{◌≡◌};
+
 /// How a run of the program ends. The number of a status is the exit status of the process.
 #[derive(Clone, Copy, Debug, PartialEq, Eq)]
 pub enum Status {
@@ -21,6 +24,15 @@ pub enum Status {
     TooMuch = 8,
     /// The listener failed.
     DoorFault = 10,
+}
+
+impl Status {
+    /// The exit status of a process that ends so.
+    pub fn code(self) -> u8
+        ensures { result ≡ code_of self }
+    {
+        self as u8
+    }
 }
 
 /// The limits that a refusal can name.

@@ -102,7 +102,7 @@ impl Sink for SteadySink {
 
     ghost beside = { room_beside };
 
-    /// Takes as many bytes of the piece as there is room for. It fails exactly where the piece is
+    /// Takes as many bytes of the piece as there is room for. It fails where the piece is
     /// not empty and no room is left.
     fn write(&mut self, bytes: &[u8]) -> Result<usize, Failed>
         ensures within { WritesAtMost result bytes.now }

@@ -7,19 +7,21 @@ use std::io;
 use std::io::{ErrorKind, Read, Write};
 use std::test::Fail;
 
-/// A writer of two bytes a call, which says how often it was flushed.
+/// A writer of two bytes a call, whose first calls may fail. It keeps how many bytes stood written
+/// at each flush.
 #[derive(Drop)]
 struct SlowWriter {
     written: Vec<u8>,
-    flushes: u32,
-    fails_to_write: bool,
-    fails_to_flush: bool,
+    flushed: Vec<usize>,
+    failing_writes: u32,
+    failing_flushes: u32,
 }
 
 impl Write for SlowWriter {
     fn write(&mut self, buf: &[u8]) -> io::Result<usize> {
-        if self.fails_to_write {
-            return Err(ErrorKind::BrokenPipe.into());
+        if self.failing_writes > 0 {
+            self.failing_writes -= 1;
+            return Err(ErrorKind::Interrupted.into());
         }
         let count = buf.len().min(2);
         self.written.extend_from_slice(&buf[..count])?;
@@ -27,10 +29,11 @@ impl Write for SlowWriter {
     }
 
     fn flush(&mut self) -> io::Result<()> {
-        if self.fails_to_flush {
-            return Err(ErrorKind::BrokenPipe.into());
+        if self.failing_flushes > 0 {
+            self.failing_flushes -= 1;
+            return Err(ErrorKind::Interrupted.into());
         }
-        self.flushes = self.flushes.saturating_add(1);
+        self.flushed.push(self.written.len())?;
         Ok(())
     }
 }
@@ -38,9 +41,9 @@ impl Write for SlowWriter {
 fn slow_writer(alloc: Global) -> SlowWriter {
     SlowWriter {
         written: Vec::new(alloc),
-        flushes: 0,
-        fails_to_write: false,
-        fails_to_flush: false,
+        flushed: Vec::new(alloc),
+        failing_writes: 0,
+        failing_flushes: 0,
     }
 }
 
@@ -80,17 +83,22 @@ fn a_write_sink_flushes_after_each_write(rt: HostRuntime) {
     let mut sink = WriteSink::new(&mut writer);
     assert_eq!(rt; write_whole(&mut sink, b"canon"), Ok(()));
     assert_eq!(rt; writer.written.as_slice(), b"canon".as_slice());
-    assert_eq!(rt; writer.flushes, 3);
+    assert_eq!(rt; writer.flushed.as_slice(), [2, 4, 5].as_slice());
 }
 
 #[test]
-fn faults_of_a_writer_are_answered(rt: HostRuntime) {
-    let mut broken = slow_writer(rt.alloc());
-    broken.fails_to_write = true;
-    assert_eq!(rt; WriteSink::new(broken).write(b"x"), Err(Failed));
-    let mut unflushed = slow_writer(rt.alloc());
-    unflushed.fails_to_flush = true;
-    assert_eq!(rt; WriteSink::new(unflushed).write(b"x"), Err(Failed));
+fn a_call_of_a_writer_is_not_tried_again(rt: HostRuntime) {
+    let mut writer = slow_writer(rt.alloc());
+    writer.failing_writes = 1;
+    writer.failing_flushes = 1;
+    let mut sink = WriteSink::new(writer);
+    assert_eq!(rt; sink.write(b"x"), Err(Failed));
+    assert_eq!(rt; sink.write(b"x"), Err(Failed));
+    assert_eq!(rt; sink.write(b"x"), Ok(1));
+}
+
+#[test]
+fn a_full_writer_is_a_fault(rt: HostRuntime) {
     let mut full = WriteSink::new(FullWriter);
     assert_eq!(rt; full.write(b""), Ok(0));
     assert_eq!(rt; full.write(b"x"), Err(Failed));
@@ -154,22 +162,8 @@ fn write_fitting(sink: &mut SteadySink, text: &[u8]) -> Result<(), Failed>
 }
 
 #[test]
-fn a_status_is_its_number(rt: HostRuntime) {
-    let numbers = [
-        (Status::Done, 0),
-        (Status::Refused, 1),
-        (Status::Usage, 2),
-        (Status::ReadFault, 3),
-        (Status::WriteFault, 4),
-        (Status::NoMemory, 5),
-        (Status::BadSession, 6),
-        (Status::Cut, 7),
-        (Status::TooMuch, 8),
-        (Status::DoorFault, 10),
-    ];
-    for (status, number) in numbers {
-        assert_eq!(rt; status as u8, number);
-    }
+fn a_run_ends_with_the_number_of_its_status(rt: HostRuntime) {
+    assert_eq!(rt; Status::DoorFault.code(), 10);
 }
 
 fn needs_send<T: Send>() {}
