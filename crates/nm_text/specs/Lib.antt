@@ -1,0 +1,12 @@
+pub mod White
+pub mod Characters
+pub mod Utf8
+pub mod Reference
+pub mod LineEnds
+pub mod Mark
+pub mod Meaning
+pub mod Refusal
+pub mod Escape
+pub mod Split
+pub mod Laws
+pub mod Examples
