@@ -1,26 +1,26 @@
 -- Identifiers read back from the text that names them, and the three spellings agree.
-use Rattle.std.proofs.Common.{◌≡◌, ℕ, List, [], ◌∷◌, ◌++◌, Bool, true, false, ◌&&◌, not, Option, None, Some, is_some, drop, if◌then◌else◌, ◌==◌, nat_eq, arith, refl, ◌∙◌}
+use Rattle.std.proofs.Common.{◌≡◌, ℕ, List, [], ◌∷◌, ◌++◌, Bool, true, false, ◌&&◌, Option, None, Some, is_none, drop, if◌then◌else◌, ◌==◌, nat_eq, arith, refl, ◌∙◌}
 use Rattle.std.proofs.lemmas.Bool.Decides.{nat_tests}
 use Rattle.std.specs.List.{list_all, starts_with}
 use Rattle.std.specs.Option.{option_map}
 use Rattle.nm_ident.proofs.UuidTexts.{length-uuid_text, uuid_of-fits, uuid_of-uuid_text, uuid_text-all_uuid_bytes}
 use Rattle.nm_ident.specs.Ident.{uuid_behind_underscore, uuid_or_name, ident_of_id, ident_behind_hash, ident_of_about, id_of, is_sound_ident, urn_prefix}
-use Rattle.nm_ident.specs.Laws.{SpellingsAgree, IsRead, IsUuidNumber, IdsReadBack, ReadIdentsAreSound}
+use Rattle.nm_ident.specs.Laws.{SpellingsAgree, IdsReadBack, ReadIdentsAreSound}
 use Rattle.nm_ident.specs.Name.{begins_name, continues_name, is_name}
 use Rattle.nm_ident.specs.UuidText.{uuid_of, uuid_text, is_uuid_byte}
 use Rattle.nm_ident.specs.declared.ident.Ident.{Ident}
 use Rattle.nm_ident.specs.declared.ident.Ident.TheVariants.{Uuid, Local}
 
-local_reads_back : (value : Option ℕ) (text : List ℕ) → (is_name text && not (is_some value)) ≡ true → uuid_or_name value text ≡ Some (Local text)
+local_reads_back : (value : Option ℕ) (text : List ℕ) → (is_name text && is_none value) ≡ true → uuid_or_name value text ≡ Some (Local text)
 local_reads_back None text sound =
     let named : is_name text ≡ true = grind arith in
     rw named refl
 local_reads_back (Some id) text sound = absurd (grind arith)
 
 -- the text of an `rdf:ID` names the resource that it was written for
-pub ident_of_id-id_of : (ident : Ident) → is_sound_ident ident ≡ true → IsUuidNumber ident → ident_of_id (id_of ident) ≡ Some ident
-ident_of_id-id_of (Uuid id) sound fits = rw (uuid_of-uuid_text id fits) refl
-ident_of_id-id_of (Local text) sound fits = local_reads_back (uuid_behind_underscore text) text sound
+pub ident_of_id-id_of : (ident : Ident) → is_sound_ident ident ≡ true → ident_of_id (id_of ident) ≡ Some ident
+ident_of_id-id_of (Uuid id) sound = rw (uuid_of-uuid_text id (grind (arith, nat_tests))) refl
+ident_of_id-id_of (Local text) sound = local_reads_back (uuid_behind_underscore text) text sound
 
 pub ident_of_about-hash : (text : List ℕ) → ident_of_about (35 ∷ text) ≡ ident_of_id text
 ident_of_about-hash text = refl
@@ -28,8 +28,8 @@ ident_of_about-hash text = refl
 pub ident_of_about-urn : (text : List ℕ) → ident_of_about (urn_prefix ++ text) ≡ option_map Uuid (uuid_of text)
 ident_of_about-urn text = refl
 
-pub ident_of_about-id_of : (ident : Ident) → is_sound_ident ident ≡ true → IsUuidNumber ident → ident_of_about (35 ∷ id_of ident) ≡ Some ident
-ident_of_about-id_of ident sound fits = ident_of_about-hash (id_of ident) ∙ ident_of_id-id_of ident sound fits
+pub ident_of_about-id_of : (ident : Ident) → is_sound_ident ident ≡ true → ident_of_about (35 ∷ id_of ident) ≡ Some ident
+ident_of_about-id_of ident sound = ident_of_about-hash (id_of ident) ∙ ident_of_id-id_of ident sound
 
 uuid_byte-continues_name : (byte : ℕ) → is_uuid_byte byte ≡ true → continues_name byte ≡ true
 uuid_byte-continues_name byte holds = grind (arith, nat_tests)
@@ -65,16 +65,17 @@ some_inside : {X : Type 0} (x y : X) → Some x ≡ Some y → x ≡ y
 some_inside x y same = cc
 
 read_name : (named : Bool) (text : List ℕ) (ident : Ident) → is_name text ≡ named → uuid_behind_underscore text ≡ None
-    → (if named then Some (Local text) else None) ≡ Some ident → IsRead ident
+    → (if named then Some (Local text) else None) ≡ Some ident → is_sound_ident ident ≡ true
 read_name true text ident named other read =
     let same : Local text ≡ ident = some_inside (Local text) ident read in
-    rw (← same) (rw (named, other) refl, tt)
+    rw (← same) (rw (named, other) refl)
 read_name false text ident named other read = absurd (let differ = read in cc)
 
-read_uuid : (text : List ℕ) (id : ℕ) (ident : Ident) → uuid_of text ≡ Some id → Some (Uuid id) ≡ Some ident → IsRead ident
+read_uuid : (text : List ℕ) (id : ℕ) (ident : Ident) → uuid_of text ≡ Some id → Some (Uuid id) ≡ Some ident → is_sound_ident ident ≡ true
 read_uuid text id ident number read =
     let same : Uuid id ≡ ident = some_inside (Uuid id) ident read in
-    rw (← same) (refl, uuid_of-fits text id number)
+    let fits = uuid_of-fits text id number in
+    rw (← same) (grind (arith, nat_tests))
 
 behind_underscore-fits : (text : List ℕ) (id : ℕ) → uuid_behind_underscore text ≡ Some id → (uuid : List ℕ) × (uuid_of uuid ≡ Some id)
 behind_underscore-fits [] id read = absurd (let differ = read in cc)
@@ -84,33 +85,33 @@ behind_underscore-fits (byte ∷ bytes) id read = at (byte == 95) bytes id read
     at true bytes id read = (bytes, read)
     at false bytes id read = absurd (let differ = read in cc)
 
-read_id : (value : Option ℕ) (text : List ℕ) (ident : Ident) → uuid_behind_underscore text ≡ value → uuid_or_name value text ≡ Some ident → IsRead ident
+read_id : (value : Option ℕ) (text : List ℕ) (ident : Ident) → uuid_behind_underscore text ≡ value → uuid_or_name value text ≡ Some ident → is_sound_ident ident ≡ true
 read_id (Some id) text ident behind read =
     let uuid = behind_underscore-fits text id behind in
     read_uuid uuid.0 id ident uuid.1 read
 read_id None text ident behind read = read_name (is_name text) text ident refl behind read
 
 -- what is read is sound
-pub ident_of_id-sound : (text : List ℕ) (ident : Ident) → ident_of_id text ≡ Some ident → IsRead ident
+pub ident_of_id-sound : (text : List ℕ) (ident : Ident) → ident_of_id text ≡ Some ident → is_sound_ident ident ≡ true
 ident_of_id-sound text ident read = read_id (uuid_behind_underscore text) text ident refl read
 
-read_urn : (value : Option ℕ) (text : List ℕ) (ident : Ident) → uuid_of text ≡ value → option_map Uuid value ≡ Some ident → IsRead ident
+read_urn : (value : Option ℕ) (text : List ℕ) (ident : Ident) → uuid_of text ≡ value → option_map Uuid value ≡ Some ident → is_sound_ident ident ≡ true
 read_urn (Some id) text ident number read = read_uuid text id ident number read
 read_urn None text ident number read = absurd (let differ = read in cc)
 
-read_hash : (text : List ℕ) (ident : Ident) → ident_behind_hash text ≡ Some ident → IsRead ident
+read_hash : (text : List ℕ) (ident : Ident) → ident_behind_hash text ≡ Some ident → is_sound_ident ident ≡ true
 read_hash [] ident read = absurd (let differ = read in cc)
 read_hash (byte ∷ bytes) ident read = at (byte == 35) bytes ident read
   where
-    at : (hash : Bool) (bytes : List ℕ) (ident : Ident) → (if hash then ident_of_id bytes else None) ≡ Some ident → IsRead ident
+    at : (hash : Bool) (bytes : List ℕ) (ident : Ident) → (if hash then ident_of_id bytes else None) ≡ Some ident → is_sound_ident ident ≡ true
     at true bytes ident read = ident_of_id-sound bytes ident read
     at false bytes ident read = absurd (let differ = read in cc)
 
-read_about : (urn : Bool) (text : List ℕ) (ident : Ident) → (if urn then option_map Uuid (uuid_of (drop 9 text)) else ident_behind_hash text) ≡ Some ident → IsRead ident
+read_about : (urn : Bool) (text : List ℕ) (ident : Ident) → (if urn then option_map Uuid (uuid_of (drop 9 text)) else ident_behind_hash text) ≡ Some ident → is_sound_ident ident ≡ true
 read_about true text ident read = read_urn (uuid_of (drop 9 text)) (drop 9 text) ident refl read
 read_about false text ident read = read_hash text ident read
 
-pub ident_of_about-sound : (text : List ℕ) (ident : Ident) → ident_of_about text ≡ Some ident → IsRead ident
+pub ident_of_about-sound : (text : List ℕ) (ident : Ident) → ident_of_about text ≡ Some ident → is_sound_ident ident ≡ true
 ident_of_about-sound text ident read = read_about (starts_with nat_eq text urn_prefix) text ident read
 
 pub read_idents_are_sound : ReadIdentsAreSound
@@ -121,4 +122,4 @@ pub spellings_agree : SpellingsAgree
 spellings_agree text id read = (rw read refl, rw read refl, rw read refl)
 
 pub ids_read_back : IdsReadBack
-ids_read_back ident sound fits = (is_name-id_of ident sound, ident_of_id-id_of ident sound fits, ident_of_about-id_of ident sound fits)
+ids_read_back ident sound = (is_name-id_of ident sound, ident_of_id-id_of ident sound, ident_of_about-id_of ident sound)

@@ -1,23 +1,14 @@
 -- Worked examples of the definitions, computed.
-use Rattle.std.specs.Prelude.{◌≡◌, ℕ, [], ◌++◌, codes, replicate, true, false, None, Some, Ok, Err, refl}
+use Rattle.std.specs.Prelude.{◌≡◌, [], ◌++◌, codes, replicate, true, false, None, Some, refl}
 use Rattle.std.specs.declared.cmp.Ordering.TheVariants.{Less, Equal, Greater}
 use Rattle.nm_ident.specs.Ident.{uuid_behind_underscore, uuid_or_name, ident_of_id, ident_behind_hash, ident_of_about, is_iri, target_of, id_of, is_sound_ident}
-use Rattle.nm_ident.specs.Name.{same_text, is_letter, begins_name, continues_name, is_name, ends_namespace, is_namespace, rdf_namespace, md_namespace, dm_namespace, type_name, is_predicate}
-use Rattle.nm_ident.specs.Order.{text_cmp, ident_cmp, target_cmp, name_cmp}
-use Rattle.nm_ident.specs.Reads.{Reads}
+use Rattle.nm_ident.specs.Name.{begins_name, continues_name, is_name, ends_namespace, is_namespace, rdf_namespace, md_namespace, dm_namespace, type_name, is_predicate}
+use Rattle.nm_ident.specs.Order.{text_cmp, ident_cmp, name_cmp}
 use Rattle.nm_ident.specs.UuidText.{is_uuid_byte}
-use Rattle.nm_ident.specs.declared.error.IdentError.TheVariants.{Bad}
 use Rattle.nm_ident.specs.declared.ident.Ident.TheVariants.{Uuid, Local}
 use Rattle.nm_ident.specs.declared.ident.Target.TheVariants as target
 
 -- ---- bytes and names
-
--- `Z`, and `[` behind it
-upper_letter : is_letter 90 ≡ true
-upper_letter = refl
-
-no_letter : is_letter 91 ≡ false
-no_letter = refl
 
 -- `9`
 digit_begins_no_name : begins_name 57 ≡ false
@@ -44,12 +35,6 @@ longest_name = refl
 
 name_too_long : is_name (replicate 129 97) ≡ false
 name_too_long = refl
-
-same_bytes : same_text (codes "ab") (codes "ab") ≡ true
-same_bytes = refl
-
-front_alone : same_text (codes "ab") (codes "a") ≡ false
-front_alone = refl
 
 -- ---- namespaces, and the names of properties and classes
 
@@ -173,19 +158,8 @@ uuid_first = refl
 bytes_in_order : ident_cmp (Local (codes "Z")) (Local (codes "a")) ≡ Less
 bytes_in_order = refl
 
-ident_before_iri : target_cmp (target.Ident (Local (codes "z"))) (target.Iri (codes "a")) ≡ Less
-ident_before_iri = refl
-
 namespace_before_local_name : name_cmp (record { ns = codes "a#"; local = codes "z" }) (record { ns = codes "b#"; local = codes "a" }) ≡ Less
 namespace_before_local_name = refl
 
 local_names_in_order : name_cmp (record { ns = codes "a#"; local = codes "b" }) (record { ns = codes "a#"; local = codes "b" }) ≡ Equal
 local_names_in_order = refl
-
--- ---- what a reader answers
-
-value_read : Reads {X = ℕ} (Ok 5) (Some 5)
-value_read = refl
-
-bad_where_none : Reads {X = ℕ} (Err Bad) None
-bad_where_none = refl

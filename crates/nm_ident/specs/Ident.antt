@@ -1,5 +1,5 @@
 -- The spellings of a resource: `rdf:ID`, `rdf:about` and `rdf:resource` (IEC 61970-552).
-use Rattle.std.specs.Prelude.{◌^◌, nat_lt, ℕ, List, [], ◌∷◌, Bool, true, false, ◌&&◌, not, Option, None, Some, codes, is_some, drop, if◌then◌else◌, nat_eq, ◌==◌}
+use Rattle.std.specs.Prelude.{◌^◌, nat_lt, ℕ, List, [], ◌∷◌, Bool, false, ◌&&◌, not, Option, None, Some, codes, is_none, drop, if◌then◌else◌, nat_eq, ◌==◌}
 use Rattle.std.specs.List.{starts_with}
 use Rattle.std.specs.Option.{option_map}
 use Rattle.nm_ident.specs.Name.{is_name}
@@ -54,12 +54,7 @@ abbrev pub id_of : Ident → List ℕ
 id_of (Uuid id) = 95 ∷ uuid_text id
 id_of (Local text) = text
 
--- a local identifier is a name that is not `_` and a UUID
+-- what a document can name: the number of a UUID, or a name that is not `_` and a UUID
 abbrev pub is_sound_ident : Ident → Bool
-is_sound_ident (Uuid id) = true
-is_sound_ident (Local text) = is_name text && not (is_some (uuid_behind_underscore text))
-
--- what a document can name: the number of a UUID, or such a name
-abbrev pub is_kept_ident : Ident → Bool
-is_kept_ident (Uuid id) = nat_lt id (2 ^ 128)
-is_kept_ident (Local text) = is_sound_ident (Local text)
+is_sound_ident (Uuid id) = nat_lt id (2 ^ 128)
+is_sound_ident (Local text) = is_name text && is_none (uuid_behind_underscore text)

@@ -1,9 +1,11 @@
+pub mod Limits
 pub mod QualifiedName
 pub mod Name
 pub mod UuidText
 pub mod Ident
 pub mod Order
 pub mod Rising
-pub mod Reads
+pub mod IdentError
+pub mod NameError
 pub mod Laws
 pub mod Examples

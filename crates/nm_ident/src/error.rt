@@ -28,7 +28,7 @@ impl From<NoMemory> for IdentError {
 /// Why a namespace and a local name are no name of a property or class.
 #[derive(Debug, Drop, PartialEq, Eq, Error)]
 pub enum NameError {
-    /// The namespace or the local name is not of the form that is kept.
+    /// The namespace or the local name is none that a property or class may have.
     #[error("no name of a property or class")]
     Bad,
     /// There is no memory for the name.

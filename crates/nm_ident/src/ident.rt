@@ -1,12 +1,14 @@
 // The identity of a resource, and its spellings.
-ghost use Rattle.std.specs.Prelude.{◌≡◌, IfOk, is_some};
-ghost use Rattle.nm_ident.specs.Ident.{ident_of_about, ident_of_id, target_of, uuid_behind_underscore as uuid_behind_underscore_of, is_kept_ident};
-ghost use Rattle.nm_ident.specs.Reads.{Reads};
+ghost use Rattle.nm_ident.specs.Ident.{id_of, ident_of_about, ident_of_id, is_sound_ident, target_of, uuid_behind_underscore as uuid_behind_underscore_of};
+ghost use Rattle.nm_ident.specs.IdentError.{wants_memory};
+ghost use Rattle.nm_terms.specs.Due.{IsDue};
+ghost use Rattle.std.specs.Option.{ok_or};
+ghost use Rattle.std.specs.Prelude.{◌≡◌, ◌++◌, IfOk, OnOk, is_some};
 
 use crate::error::{IdentError, NoMemory};
 use crate::name::is_name;
 use crate::text::Text;
-use crate::uuid_text::model_id;
+use crate::uuid_text::{id_text, model_id};
 use std::alloc::Global;
 
 /// What stands before a UUID in an `rdf:about` (RFC 9562, section 4).
@@ -23,31 +25,25 @@ pub enum Ident {
 }
 
 /// What `rdf:resource` points to.
-#[derive(Debug, Drop, PartialEq, Eq, PartialOrd, Ord)]
+#[derive(Debug, Drop)]
 pub enum Target {
     /// A resource of a model.
     Ident(Ident),
-    /// An IRI, kept as text.
+    /// An IRI, as it is written.
     Iri(Text),
 }
 
 impl Ident {
     /// Reads the text of an `rdf:ID`: `_` and a UUID in either letter case, or any other name.
-    /// `Bad` comes exactly where the text is neither.
+    /// `Bad` for any other text.
     pub fn of_id(alloc: Global, text: &[u8]) -> Result<Ident, IdentError>
-        ensures { Reads result (ident_of_id text.now) }
+        ensures { IsDue wants_memory result (ok_or (ident_of_id text.now) IdentError.Bad) }
     {
-        if let Some(id) = uuid_behind_underscore(text) {
-            return Ok(Ident::Uuid(id));
-        }
-        if !is_name(text) {
-            return Err(IdentError::Bad);
-        }
-        Ok(Ident::Local(Text::of_slice(alloc, text)?))
+        named_by_id(alloc, text)?.ok_or(IdentError::Bad)
     }
 
     /// Reads the text of an `rdf:about`: `#` and the text of an `rdf:ID`, or `urn:uuid:` and a UUID
-    /// (RFC 9562, section 4). `Bad` comes exactly where the text is neither.
+    /// (RFC 9562, section 4). `Bad` for any other text.
     ///
     /// ```text
     /// #_f81d4fae-7dec-11d0-a765-00a0c91e6bf6          Uuid(0xf81d4fae7dec11d0a76500a0c91e6bf6)
@@ -56,18 +52,9 @@ impl Ident {
     /// Line-1                                          Bad
     /// ```
     pub fn of_about(alloc: Global, text: &[u8]) -> Result<Ident, IdentError>
-        ensures { Reads result (ident_of_about text.now) }
+        ensures { IsDue wants_memory result (ok_or (ident_of_about text.now) IdentError.Bad) }
     {
-        if let Some(uuid) = text.strip_prefix(URN_PREFIX) {
-            return match model_id(uuid) {
-                Some(id) => Ok(Ident::Uuid(id)),
-                None => Err(IdentError::Bad),
-            };
-        }
-        match text {
-            [b'#', id @ ..] => Ident::of_id(alloc, id),
-            _ => Err(IdentError::Bad),
-        }
+        named_by_about(alloc, text)?.ok_or(IdentError::Bad)
     }
 
     /// Whether [`Ident::of_about`] reads the text as an identifier.
@@ -84,25 +71,23 @@ impl Ident {
     }
 
     /// Reads the text of an `rdf:resource`: an identifier where [`Ident::of_about`] reads one, and
-    /// else an IRI that is kept as it is. `Bad` comes exactly where the text is empty, or begins
-    /// with `#` and is no identifier.
+    /// else an IRI, as it is written. `Bad` for an empty text, and for one that begins with `#` and
+    /// is no identifier.
     pub fn of_resource(alloc: Global, text: &[u8]) -> Result<Target, IdentError>
-        ensures { Reads result (target_of text.now) }
+        ensures { IsDue wants_memory result (ok_or (target_of text.now) IdentError.Bad) }
     {
-        match Ident::of_about(alloc, text) {
-            Ok(ident) => Ok(Target::Ident(ident)),
-            Err(IdentError::NoMemory) => Err(IdentError::NoMemory),
-            Err(IdentError::Bad) => match text {
-                [] | [b'#', ..] => Err(IdentError::Bad),
-                _ => Ok(Target::Iri(Text::of_slice(alloc, text)?)),
-            },
+        if let Some(ident) = named_by_about(alloc, text)? {
+            return Ok(Target::Ident(ident));
+        }
+        match text {
+            [] | [b'#', ..] => Err(IdentError::Bad),
+            _ => Ok(Target::Iri(Text::of_slice(alloc, text)?)),
         }
     }
 
-    /// Whether the identifier is one that a document can name: a UUID, or a name that is not `_`
-    /// and a UUID.
-    pub fn is_kept(&self) -> bool
-        ensures { result ≡ is_kept_ident self.now }
+    /// Whether a document can name the identifier: a UUID, or a name that is not `_` and a UUID.
+    pub fn is_sound(&self) -> bool
+        ensures { result ≡ is_sound_ident self.now }
     {
         match self {
             Ident::Uuid(id) => {
@@ -117,6 +102,21 @@ impl Ident {
         }
     }
 
+    /// Appends the text of the `rdf:ID` that names the resource: `_` and the UUID in lower case, or
+    /// the local identifier.
+    pub fn append_id(&self, out: &mut Vec<u8>) -> Result<(), NoMemory>
+        ensures { OnOk result (out.new.items ≡ out.old.items ++ id_of self.now) }
+    {
+        match self {
+            Ident::Uuid(id) => {
+                out.push(b'_')?;
+                out.extend_from_slice(&id_text(*id))?;
+            }
+            Ident::Local(text) => out.extend_from_slice(text.as_slice())?,
+        }
+        Ok(())
+    }
+
     /// The same identifier in memory of its own.
     pub fn copy(&self, alloc: Global) -> Result<Ident, NoMemory>
         ensures { IfOk result (λ ident. ident ≡ self.now) }
@@ -125,6 +125,32 @@ impl Ident {
             Ident::Uuid(id) => Ok(Ident::Uuid(*id)),
             Ident::Local(text) => Ok(Ident::Local(text.copy(alloc)?)),
         }
+    }
+}
+
+/// What the text of an `rdf:ID` names.
+fn named_by_id(alloc: Global, text: &[u8]) -> Result<Option<Ident>, NoMemory>
+    ensures { IfOk result (λ ident. ident ≡ ident_of_id text.now) }
+{
+    if let Some(id) = uuid_behind_underscore(text) {
+        return Ok(Some(Ident::Uuid(id)));
+    }
+    if !is_name(text) {
+        return Ok(None);
+    }
+    Ok(Some(Ident::Local(Text::of_slice(alloc, text)?)))
+}
+
+/// What the text of an `rdf:about` names.
+fn named_by_about(alloc: Global, text: &[u8]) -> Result<Option<Ident>, NoMemory>
+    ensures { IfOk result (λ ident. ident ≡ ident_of_about text.now) }
+{
+    if let Some(uuid) = text.strip_prefix(URN_PREFIX) {
+        return Ok(model_id(uuid).map(Ident::Uuid));
+    }
+    match text {
+        [b'#', id @ ..] => named_by_id(alloc, id),
+        _ => Ok(None),
     }
 }
 

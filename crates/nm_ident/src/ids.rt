@@ -20,7 +20,7 @@ impl Model for Ids {
 }
 
 impl Ids {
-    /// The list of these identifiers, kept as it is.
+    /// The list of these identifiers, in this order.
     pub fn of_list(list: Vec<u128>) -> Ids
         ensures { result ≡ list.items }
     {

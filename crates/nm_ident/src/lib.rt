@@ -16,9 +16,13 @@ pub use error::{IdentError, NameError, NoMemory};
 pub use ident::{Ident, Target};
 pub use ids::Ids;
 pub use laws::{
-    ids_read_back, orders_are_total, read_idents_are_sound, spellings_agree, uuid_texts_read_back,
+    idents_are_ordered, ids_read_back, names_are_ordered, orders_are_total, read_idents_are_sound,
+    spellings_agree, uuid_texts_read_back,
 };
-pub use name::{DIFFERENCE_NAMESPACE, MODEL_NAMESPACE, Name, RDF_NAMESPACE, is_name, is_predicate};
+pub use name::{
+    DIFFERENCE_NAMESPACE, LONGEST_NAME, LONGEST_NAMESPACE, MODEL_NAMESPACE, Name, RDF_NAMESPACE,
+    is_name, is_namespace, is_predicate,
+};
 pub use text::{Text, Texts};
 pub use uuid_text::{id_text, model_id};
 

@@ -33,7 +33,8 @@ fn the_three_spellings_name_one_resource(rt: HostRuntime) -> Result<(), Fail> {
     assert_eq!(rt; id, Ident::Uuid(EXAMPLE_NUMBER));
     assert_eq!(rt; hash, id);
     assert_eq!(rt; Ident::of_about(rt.alloc(), urn)?, id);
-    assert_eq!(rt; Ident::of_resource(rt.alloc(), urn)?, Target::Ident(id));
+    let target = Ident::of_resource(rt.alloc(), urn)?;
+    assert!(rt; matches!(&target, Target::Ident(ident) if *ident == id));
     Ok(())
 }
 
@@ -47,10 +48,13 @@ fn reads_local_identifiers_and_iris(rt: HostRuntime) -> Result<(), Fail> {
         Err(IdentError::Bad)
     );
     assert_eq!(rt; line.copy(rt.alloc())?, line);
+    let mut id = Vec::new(rt.alloc());
+    line.append_id(&mut id)?;
+    assert_eq!(rt; id.as_slice(), b"Line-1".as_slice());
     let code = b"http://iec.ch/TC57/CIM100#PhaseCode.A".as_slice();
-    let iri = Target::Iri(Text::of_slice(rt.alloc(), code)?);
-    assert_eq!(rt; Ident::of_resource(rt.alloc(), code)?, iri);
-    assert_eq!(rt; Ident::of_resource(rt.alloc(), b"#"), Err(IdentError::Bad));
+    let target = Ident::of_resource(rt.alloc(), code)?;
+    assert!(rt; matches!(&target, Target::Iri(iri) if iri.as_slice() == code));
+    assert!(rt; Ident::of_resource(rt.alloc(), b"#").is_err());
     Ok(())
 }
 

@@ -1,4 +1,4 @@
-// Bytes that are kept as a text, and lists of them. A contract sees their bytes.
+// Texts, which are lists of bytes, and lists of texts. A contract sees their bytes.
 ghost use Rattle.std.specs.Cmp.{partial_equiv_from_equiv};
 ghost use Rattle.std.specs.Cmp.Lexicographic.{pointwise, slice_cmp, nat_list_eq_equiv, nat_list_cmp_total, texts_ties, texts_po};
 ghost use Rattle.std.specs.Ordering.{nat_cmp};
@@ -24,7 +24,7 @@ impl Model for Text {
 }
 
 impl Text {
-    /// The text of these bytes, kept as they are.
+    /// The text of these bytes.
     pub fn of_list(list: Vec<u8>) -> Text
         ensures { result ≡ list.items }
     {
@@ -43,6 +43,13 @@ impl Text {
         ensures { result.now ≡ self.now }
     {
         &self.bytes
+    }
+
+    /// The list of the bytes, so that more can be put behind them.
+    pub fn into_list(self) -> Vec<u8>
+        ensures { result.items ≡ self }
+    {
+        self.bytes
     }
 
     /// The same text in memory of its own.
@@ -106,7 +113,7 @@ impl Model for Texts {
 }
 
 impl Texts {
-    /// The list of these texts, kept as it is.
+    /// The list of these texts, in this order.
     pub fn of_list(list: Vec<Text>) -> Texts
         ensures { result ≡ list.items }
     {

@@ -8,7 +8,7 @@ use uuid::Uuid;
 const TEXT_LENGTH: usize = 36;
 
 /// The number of the UUID whose hyphenated text this is, in either letter case (RFC 9562, section 4).
-/// `None` comes exactly where it is none.
+/// `None` for any other text.
 pub fn model_id(text: &[u8]) -> Option<u128>
     ensures { result ≡ uuid_of text.now }
 {
