@@ -15,5 +15,5 @@ equal_ids_do_not_rise = refl
 one_too_many : are_sound_ids 1 (1 ∷ 2 ∷ []) ≡ false
 one_too_many = refl
 
-as_many_as_are_kept : are_sound_ids 2 (1 ∷ 2 ∷ []) ≡ true
-as_many_as_are_kept = refl
+as_many_as_are_allowed : are_sound_ids 2 (1 ∷ 2 ∷ []) ≡ true
+as_many_as_are_allowed = refl

@@ -1,12 +1,13 @@
--- Models that a document can state, within the limits.
+-- Models that a document can state, and those that are within the limits.
 use Rattle.std.specs.Prelude.{ℕ, ◌+◌, ◌^◌, List, length, Bool, true, ◌&&◌, nat_le, nat_lt, Option, None, Some}
 use Rattle.std.specs.List.{list_all}
 use Rattle.std.specs.Ordering.{nat_cmp}
 use Rattle.nm_ident.specs.Order.{text_cmp}
 use Rattle.nm_ident.specs.Rising.{is_rising_by}
-use Rattle.nm_statement.specs.Characters.{is_literal}
+use Rattle.nm_statement.specs.Literal.{is_literal}
 use Rattle.nm_statement.specs.Sound.{is_sound_set}
 use Rattle.nm_statement.specs.declared.set.Change.{Change}
+use Rattle.nm_model.specs.Limits.{most_changes, most_dependencies, most_profiles, most_statements, most_superseded}
 use Rattle.nm_model.specs.declared.header.Header.{Header}
 use Rattle.nm_model.specs.declared.document.Full.{Full}
 use Rattle.nm_model.specs.declared.document.Difference.{Difference}
@@ -17,14 +18,14 @@ use Rattle.nm_model.specs.declared.document.Document.TheVariants as document
 abbrev pub is_model_id : ℕ → Bool
 is_model_id id = nat_lt id (2 ^ 128)
 
--- strictly rising ids of models, so many at most
+-- strictly rising ids of models, at most `most`
 abbrev pub are_sound_ids : ℕ → List ℕ → Bool
 are_sound_ids most ids = list_all is_model_id ids && is_rising_by nat_cmp ids && nat_le (length ids) most
 
--- strictly rising literals, 64 at most
+-- strictly rising literals, no more than a header may state
 abbrev pub are_sound_profiles : List (List ℕ) → Bool
 are_sound_profiles profiles =
-    list_all is_literal profiles && is_rising_by text_cmp profiles && nat_le (length profiles) 64
+    list_all is_literal profiles && is_rising_by text_cmp profiles && nat_le (length profiles) most_profiles
 
 abbrev pub is_sound_property : Option (List ℕ) → Bool
 is_sound_property None = true
@@ -38,7 +39,8 @@ are_sound_properties header =
 abbrev pub is_sound_header : Header → Bool
 is_sound_header header =
     is_model_id header.id && are_sound_properties header && are_sound_profiles header.profiles
-    && are_sound_ids 64 header.depends && are_sound_ids 4160 header.supersedes
+    && are_sound_ids most_dependencies header.depends
+    && are_sound_ids most_superseded header.supersedes
 
 abbrev pub is_sound_full : Full → Bool
 is_sound_full full = is_sound_header full.header && is_sound_set full.statements
@@ -53,8 +55,15 @@ is_sound_difference difference = is_sound_header difference.header && is_sound_c
 abbrev pub stated_by : Change → ℕ
 stated_by change = length change.pre + length change.rev + length change.fwd
 
--- a sound model that states no more statements than are kept
-abbrev pub is_kept : Document → Bool
-is_kept (document.Full full) = is_sound_full full && nat_le (length full.statements) 1048576
-is_kept (document.Difference difference) =
-    is_sound_difference difference && nat_le (stated_by difference.change) 65536
+-- a model that a document can state
+abbrev pub is_sound_document : Document → Bool
+is_sound_document (document.Full full) = is_sound_full full
+is_sound_document (document.Difference difference) = is_sound_difference difference
+
+-- a model that states no more statements than a document may
+abbrev pub is_within_limits : Document → Bool
+is_within_limits (document.Full full) = nat_le (length full.statements) most_statements
+is_within_limits (document.Difference difference) = nat_le (stated_by difference.change) most_changes
+
+abbrev pub is_sound_within_limits : Document → Bool
+is_sound_within_limits model = is_sound_document model && is_within_limits model

@@ -1,16 +1,13 @@
 // Full models, difference models, and the documents that hold either.
 
+ghost use Rattle.nm_model.specs.Limits.{most_changes};
 ghost use Rattle.nm_model.specs.Sound as spec;
+ghost use Rattle.nm_model.specs.Sound.{is_sound_document, is_within_limits};
 ghost use Rattle.std.specs.Prelude.{◌≡◌, nat_le};
 
 use crate::header::Header;
+use crate::limits::{MOST_CHANGES, MOST_STATEMENTS};
 use nm_statement::{Change, Set};
-
-/// The most statements of a full model.
-const MOST_STATEMENTS: usize = 1_048_576;
-
-/// The most statements of a difference model's sections together.
-const MOST_CHANGES: usize = 65_536;
 
 /// A full model: everything that a network is said to be.
 #[derive(Debug, Drop)]
@@ -40,30 +37,38 @@ pub enum Document {
 }
 
 impl Document {
-    /// Whether a document can state the model: its header and statements are sound, and it states
-    /// at most 1,048,576 statements, or 65,536 in a difference model's sections together.
-    pub fn is_kept(&self) -> bool
-        ensures { result ≡ spec.is_kept self.now }
+    /// Whether a document can state the model: its header and each of its statements are sound.
+    pub fn is_sound(&self) -> bool
+        ensures { result ≡ is_sound_document self.now }
     {
         match self {
-            Document::Full(full) => is_kept_full(full),
-            Document::Difference(difference) => is_kept_difference(difference),
+            Document::Full(full) => is_sound_full(full),
+            Document::Difference(difference) => is_sound_difference(difference),
+        }
+    }
+
+    /// Whether the model states at most 1,048,576 statements, or 65,536 in a difference model's
+    /// sections together.
+    pub fn is_within_limits(&self) -> bool
+        ensures { result ≡ is_within_limits self.now }
+    {
+        match self {
+            Document::Full(full) => full.statements.len() <= MOST_STATEMENTS,
+            Document::Difference(difference) => states_few(&difference.change),
         }
     }
 }
 
-fn is_kept_full(full: &Full) -> bool
-    ensures { result ≡ spec.is_kept (Document.Full full.now) }
+fn is_sound_full(full: &Full) -> bool
+    ensures { result ≡ spec.is_sound_full full.now }
 {
-    full.header.is_sound() && full.statements.is_sound() && full.statements.len() <= MOST_STATEMENTS
+    full.header.is_sound() && full.statements.is_sound()
 }
 
-fn is_kept_difference(difference: &Difference) -> bool
-    ensures { result ≡ spec.is_kept (Document.Difference difference.now) }
+fn is_sound_difference(difference: &Difference) -> bool
+    ensures { result ≡ spec.is_sound_difference difference.now }
 {
-    difference.header.is_sound()
-        && is_sound_change(&difference.change)
-        && states_few(&difference.change)
+    difference.header.is_sound() && is_sound_change(&difference.change)
 }
 
 fn is_sound_change(change: &Change) -> bool
@@ -73,7 +78,7 @@ fn is_sound_change(change: &Change) -> bool
 }
 
 fn states_few(change: &Change) -> bool
-    ensures { result ≡ nat_le (spec.stated_by change.now) 65536 }
+    ensures { result ≡ nat_le (spec.stated_by change.now) most_changes }
 {
     let pre = change.pre.len();
     let rev = change.rev.len();

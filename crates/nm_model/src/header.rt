@@ -3,10 +3,11 @@ ghost use Rattle.nm_ident.specs.Rising.{is_rising_by};
 ghost use Rattle.nm_model.specs.Header.{dependencies_of};
 ghost use Rattle.nm_model.specs.Sound as spec;
 ghost use Rattle.nm_model.specs.Sound.{are_sound_properties, is_sound_header};
-ghost use Rattle.nm_statement.specs.Characters.{is_literal};
+ghost use Rattle.nm_statement.specs.Literal.{is_literal};
 ghost use Rattle.std.specs.List.{list_all};
 ghost use Rattle.std.specs.Prelude.{◌≡◌, IfOk};
 
+use crate::limits::{MOST_DEPENDENCIES, MOST_PROFILES, MOST_SUPERSEDED};
 use nm_ident::{Ids, NoMemory, Text, Texts};
 use nm_statement::Literal;
 use std::alloc::Global;
@@ -34,15 +35,6 @@ pub struct Header {
     /// The models whose place this one takes (`md:Model.Supersedes`), strictly rising.
     pub supersedes: Ids,
 }
-
-/// The most profiles that a header states.
-const MOST_PROFILES: usize = 64;
-
-/// The most models that a header depends on.
-const MOST_DEPENDENCIES: usize = 64;
-
-/// The most models that a header supersedes.
-const MOST_SUPERSEDED: usize = 4_160;
 
 impl Header {
     /// The models that `depends` or `supersedes` names, strictly rising.

@@ -4,9 +4,14 @@
 
 mod document;
 mod header;
+mod limits;
 
 pub use document::{Difference, Document, Full};
 pub use header::Header;
+pub use limits::{
+    LONGEST_DOCUMENT, MOST_CHANGES, MOST_DEPENDENCIES, MOST_PROFILES, MOST_STATEMENTS,
+    MOST_SUPERSEDED,
+};
 
 #[cfg(test)]
 mod tests;

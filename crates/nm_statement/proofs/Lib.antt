@@ -1,4 +1,3 @@
 pub mod Orders
 pub mod Sets
 pub mod Merges
-pub mod Examples

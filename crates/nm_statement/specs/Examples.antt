@@ -1,15 +1,11 @@
 -- Worked examples of the definitions, computed.
 use Rattle.std.specs.Prelude.{◌≡◌, ℕ, List, [], ◌∷◌, ◌++◌, codes, true, false, refl}
 use Rattle.nm_ident.specs.declared.ident.Ident.TheVariants.{Local}
-use Rattle.nm_statement.specs.Characters.{is_character}
 use Rattle.nm_statement.specs.Line.{line_of}
 use Rattle.nm_statement.specs.Set.{has, minus_of, set_of, union_of}
 use Rattle.nm_statement.specs.declared.object.Object.{Object}
 use Rattle.nm_statement.specs.declared.object.Object.TheVariants.{Literal, Resource, Iri}
 use Rattle.nm_statement.specs.declared.statement.Statement.{Statement}
-
-no_character : is_character 0xFFFE ≡ false
-no_character = refl
 
 abbrev states : List ℕ → Object → Statement
 states subject object = record {

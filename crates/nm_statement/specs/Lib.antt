@@ -1,5 +1,7 @@
-pub mod Characters
+pub mod Limits
+pub mod Literal
 pub mod Text
+pub mod TextError
 pub mod Order
 pub mod Set
 pub mod Line

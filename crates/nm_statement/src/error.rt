@@ -11,7 +11,7 @@ pub enum TextError {
     /// The bytes are not UTF-8 of XML characters (XML 1.0, section 2.2).
     #[error("not UTF-8 of XML characters")]
     Bad,
-    /// The bytes are such and longer than is kept.
+    /// The bytes are such and too many.
     #[error("too long")]
     Long,
     /// There is no memory for the text.

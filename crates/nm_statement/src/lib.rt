@@ -4,7 +4,6 @@
 //! object that is a literal, a resource of a model or an IRI.
 #![tactic(auto)]
 
-mod characters;
 mod error;
 mod laws;
 mod literal;
@@ -16,8 +15,8 @@ mod statement;
 
 pub use error::TextError;
 pub use laws::{members_make_sets, sets_have_members, statements_are_ordered};
-pub use literal::Literal;
-pub use object::Object;
+pub use literal::{LONGEST_LITERAL, Literal};
+pub use object::{LONGEST_IRI, Object};
 pub use report::line;
 pub use set::{Change, Set, SetIter};
 pub use statement::Statement;

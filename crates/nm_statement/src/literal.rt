@@ -1,16 +1,18 @@
 // Literals.
-ghost use Rattle.nm_statement.specs.Characters.{is_literal};
-ghost use Rattle.nm_statement.specs.Text.{Gives, literal_of};
+ghost use Rattle.nm_statement.specs.Literal.{is_literal};
+ghost use Rattle.nm_statement.specs.Text.{literal_of};
+ghost use Rattle.nm_statement.specs.TextError.{wants_memory};
+ghost use Rattle.nm_terms.specs.Due.{IsDue};
 ghost use Rattle.std.specs.Prelude.{◌≡◌, IfOk, IsTrue};
 
-use crate::characters::is_text;
 use crate::error::TextError;
 use nm_ident::{NoMemory, Text};
+use nm_text::is_text;
 use std::alloc::Global;
 use std::marker::Model;
 
 /// The longest literal, in bytes.
-const LONGEST_LITERAL: usize = 65_536;
+pub const LONGEST_LITERAL: usize = 65_536;
 
 /// A text that a statement gives as a value: UTF-8 of XML characters, at most 65,536 bytes.
 #[derive(Debug, Drop, PartialEq, Eq, PartialOrd, Ord)]
@@ -20,7 +22,7 @@ pub struct Literal {
 
 impl Model for Literal {
     ghost use Rattle.std.specs.Prelude.{ℕ, List, IsTrue};
-    ghost use Rattle.nm_statement.specs.Characters.{is_literal};
+    ghost use Rattle.nm_statement.specs.Literal.{is_literal};
 
     ghost Value = { List ℕ };
 
@@ -34,10 +36,10 @@ impl Model for Literal {
 impl Literal {
     /// The literal with these bytes.
     ///
-    /// `Bad` comes exactly where they are not UTF-8 of XML characters (XML 1.0, section 2.2), and
-    /// `Long` exactly where they are such and more than 65,536.
+    /// `Bad` where they are not UTF-8 of XML characters (XML 1.0, section 2.2), and `Long` where
+    /// they are such and more than 65,536.
     pub fn new(alloc: Global, bytes: &[u8]) -> Result<Literal, TextError>
-        ensures { Gives result (literal_of bytes.now) }
+        ensures { IsDue wants_memory result (literal_of bytes.now) }
     {
         if !is_text(bytes) {
             return Err(TextError::Bad);

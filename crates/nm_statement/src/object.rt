@@ -2,17 +2,19 @@
 ghost use Rattle.nm_ident.specs.Ident.{is_iri};
 ghost use Rattle.nm_statement.specs.Sound as spec;
 ghost use Rattle.nm_statement.specs.Sound.{is_sound_object};
-ghost use Rattle.nm_statement.specs.Text.{Gives, object_of};
+ghost use Rattle.nm_statement.specs.Text.{object_of};
+ghost use Rattle.nm_statement.specs.TextError.{wants_memory};
+ghost use Rattle.nm_terms.specs.Due.{IsDue};
 ghost use Rattle.std.specs.Prelude.{◌≡◌, IfOk};
 
-use crate::characters::is_text;
 use crate::error::TextError;
 use crate::literal::Literal;
 use nm_ident::{Ident, NoMemory, Target, Text};
+use nm_text::is_text;
 use std::alloc::Global;
 
 /// The longest IRI, in bytes.
-const LONGEST_IRI: usize = 2_048;
+pub const LONGEST_IRI: usize = 2_048;
 
 /// The object of a statement. Literals stand before resources, and resources before IRIs.
 #[derive(Debug, Drop, PartialEq, Eq, PartialOrd, Ord)]
@@ -26,13 +28,12 @@ pub enum Object {
 }
 
 impl Object {
-    /// The object that `rdf:resource` points to, kept as it is.
+    /// The object that `rdf:resource` points to.
     ///
-    /// `Bad` comes exactly where it is an IRI that is not UTF-8 of XML characters (XML 1.0,
-    /// section 2.2), and `Long` exactly where it is an IRI that is such and has more than 2,048
-    /// bytes.
+    /// `Bad` for an IRI that is not UTF-8 of XML characters (XML 1.0, section 2.2), and `Long` for
+    /// one that is such and has more than 2,048 bytes.
     pub fn of_target(_alloc: Global, target: Target) -> Result<Object, TextError>
-        ensures { Gives result (object_of target) }
+        ensures { IsDue wants_memory result (object_of target) }
     {
         match target {
             Target::Ident(ident) => Ok(Object::Resource(ident)),
@@ -59,7 +60,7 @@ impl Object {
                 let _text = literal.as_slice();
                 true
             }
-            Object::Resource(ident) => ident.is_kept(),
+            Object::Resource(ident) => ident.is_sound(),
             Object::Iri(iri) => is_sound_iri(iri.as_slice()),
         }
     }

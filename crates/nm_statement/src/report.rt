@@ -4,7 +4,7 @@ ghost use Rattle.std.specs.Prelude.{◌≡◌, ◌++◌, ◌∷◌, [], IfOk, On
 
 use crate::object::Object;
 use crate::statement::Statement;
-use nm_ident::{Ident, Name, NoMemory, id_text};
+use nm_ident::{Ident, Name, NoMemory};
 use std::alloc::Global;
 
 /// The line that reports a statement, without an end of line.
@@ -34,14 +34,7 @@ fn append_ident(line: &mut Vec<u8>, ident: &Ident) -> Result<(), NoMemory>
     ensures { OnOk result (line.new.items ≡ line.old.items ++ hash_of ident.now) }
 {
     line.push(b'#')?;
-    match ident {
-        Ident::Uuid(id) => {
-            line.push(b'_')?;
-            line.extend_from_slice(&id_text(*id))?;
-        }
-        Ident::Local(text) => line.extend_from_slice(text.as_slice())?,
-    }
-    Ok(())
+    ident.append_id(line)
 }
 
 /// Appends the namespace and the local name between `<` and `>`.

@@ -24,7 +24,7 @@ impl Statement {
         ensures { result ≡ is_sound_statement self.now }
     {
         let predicate = &self.predicate;
-        self.subject.is_kept()
+        self.subject.is_sound()
             && is_predicate(predicate.ns().as_slice(), predicate.local().as_slice())
             && self.object.is_sound()
     }
