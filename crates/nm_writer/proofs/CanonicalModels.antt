@@ -3,8 +3,9 @@ use Rattle.std.proofs.Common.{◌≡◌, ◌∙◌, ℕ, ◌≤◌, Bool, true, 
 use Rattle.std.specs.Prelude.{IfOk, nat_le, if◌then◌else◌}
 use Rattle.std.proofs.lemmas.Bool.{le-leb, leb-true}
 use Rattle.std.specs.Cmp.Lexicographic.{bytes_decides}
-use Rattle.nm_ident.specs.Name.{same_text}
-use Rattle.nm_model.specs.Sound.{is_kept}
+use Rattle.nm_terms.specs.Bytes.{same_text}
+use Rattle.nm_model.specs.Limits.{longest_document}
+use Rattle.nm_model.specs.Sound.{is_sound_within_limits}
 use Rattle.nm_model.specs.declared.document.Difference.{Difference}
 use Rattle.nm_model.specs.declared.document.Document.{Document}
 use Rattle.nm_model.specs.declared.document.Document.TheVariants as document
@@ -15,7 +16,7 @@ use Rattle.nm_writer.specs.declared.error.CanonicalError.TheVariants as canonica
 use Rattle.nm_writer.specs.Canonical.{canonical_of, root_start, xml_line}
 use Rattle.nm_writer.specs.Gives.{Gives}
 use Rattle.nm_writer.specs.Plain.{IsCanonicalOf, IsUnlessNoMemory, is_plain, is_plain_header}
-use Rattle.nm_writer.specs.Reading.{◌>>=◌, Read, canonical_model, change_at, difference_at, dm_declaration, difference_behind, document_at, full_at, full_behind, header_at, if_canonical, is_difference, kind_at, model_at, models_at, profiles_at, set_at, spaces_at, strip, tag_end}
+use Rattle.nm_writer.specs.Reading.{◌>>=◌, Read, canonical_model, change_at, difference_at, dm_declaration, difference_behind, document_at, full_at, full_behind, header_at, if_canonical, is_difference, kind_at, model_at, models_at, profiles_at, set_at, namespaces_at, strip, tag_end}
 use Rattle.nm_writer.proofs.DocumentsAgain.{document_again}
 use Rattle.nm_writer.proofs.Pieces.{bind_some, some_is}
 
@@ -56,20 +57,20 @@ full_plain : (bytes : List ℕ) → Within (λ full. is_plain_header full.header
 unfolding full_at
 full_plain bytes =
     let P = (λ (full : Full). is_plain_header full.header ≡ true) in
-    within_bind P (spaces_at bytes) _ (λ spaces.
-    within_bind P (strip tag_end spaces.1) _ (λ behind.
+    within_bind P (namespaces_at bytes) _ (λ namespaces.
+    within_bind P (strip tag_end namespaces.1) _ (λ behind.
     behind_header P (codes "<md:FullModel rdf:about=\"urn:uuid:") behind _ (λ header plain.
     within_bind P (strip (codes "</md:FullModel>" ++ 10 ∷ []) header.1) _ (λ objects.
-    within_bind P (set_at spaces.0 objects) _ (λ statements. plain)))))
+    within_bind P (set_at namespaces.0 objects) _ (λ statements. plain)))))
 
 difference_plain : (bytes : List ℕ) → Within (λ difference. is_plain_header difference.header ≡ true) (difference_at bytes)
 unfolding difference_at
 difference_plain bytes =
     let P = (λ (difference : Difference). is_plain_header difference.header ≡ true) in
-    within_bind P (spaces_at bytes) _ (λ spaces.
-    within_bind P (strip tag_end spaces.1) _ (λ behind.
+    within_bind P (namespaces_at bytes) _ (λ namespaces.
+    within_bind P (strip tag_end namespaces.1) _ (λ behind.
     behind_header P (codes "<dm:DifferenceModel rdf:about=\"urn:uuid:") behind _ (λ header plain.
-    within_bind P (change_at spaces.0 header.1) _ (λ change. plain))))
+    within_bind P (change_at namespaces.0 header.1) _ (λ change. plain))))
 
 abbrev IsPlain : Document → Type 0
 IsPlain model = is_plain model ≡ true
@@ -104,11 +105,11 @@ document_plain bytes = within_bind IsPlain (strip (xml_line ++ root_start) bytes
 -- ---- what is found
 
 -- the model that is judged is the one that is given
-judged : (bytes : List ℕ) (model found : Document) → if_canonical bytes model ≡ Some found → (model ≡ found) × (is_kept model ≡ true) × (same_text (canonical_of model) bytes ≡ true)
-judged bytes model found is = by (is_kept model) (same_text (canonical_of model) bytes) refl refl is
+judged : (bytes : List ℕ) (model found : Document) → if_canonical bytes model ≡ Some found → (model ≡ found) × (is_sound_within_limits model ≡ true) × (same_text (canonical_of model) bytes ≡ true)
+judged bytes model found is = by (is_sound_within_limits model) (same_text (canonical_of model) bytes) refl refl is
   where
-    by : (kept same : Bool) → is_kept model ≡ kept → same_text (canonical_of model) bytes ≡ same → (if kept && same then Some model else None) ≡ Some found
-        → (model ≡ found) × (is_kept model ≡ true) × (same_text (canonical_of model) bytes ≡ true)
+    by : (kept same : Bool) → is_sound_within_limits model ≡ kept → same_text (canonical_of model) bytes ≡ same → (if kept && same then Some model else None) ≡ Some found
+        → (model ≡ found) × (is_sound_within_limits model ≡ true) × (same_text (canonical_of model) bytes ≡ true)
     by true true kept same given = (some_is model found given, kept, same)
     by true false kept same given = absurd cc
     by false same kept is_same given = absurd cc
@@ -116,9 +117,9 @@ judged bytes model found is = by (is_kept model) (same_text (canonical_of model)
 -- what is given is a model whose canonical document the bytes are
 pub canonical_found : (bytes : List ℕ) (model : Document) → canonical_model bytes ≡ Some model → IsCanonicalOf model bytes
 unfolding canonical_model
-canonical_found bytes model is = by (nat_le (length bytes) 67108864) refl is
+canonical_found bytes model is = by (nat_le (length bytes) longest_document) refl is
   where
-    of_judged : length bytes ≤ 67108864 → (read : Document) → document_at bytes ≡ Some read → if_canonical bytes read ≡ Some model → IsCanonicalOf model bytes
+    of_judged : length bytes ≤ longest_document → (read : Document) → document_at bytes ≡ Some read → if_canonical bytes read ≡ Some model → IsCanonicalOf model bytes
     of_judged short read given is_judged =
         let found = judged bytes read model is_judged in
         subst (λ (m : Document). IsCanonicalOf m bytes) found.0 (record {
@@ -128,10 +129,10 @@ canonical_found bytes model is = by (nat_le (length bytes) 67108864) refl is
           spelt = (bytes_decides (canonical_of read) bytes).0 found.2;
         })
 
-    by : (short : Bool) → nat_le (length bytes) 67108864 ≡ short → (if short then (document_at bytes >>= if_canonical bytes) else None) ≡ Some model → IsCanonicalOf model bytes
+    by : (short : Bool) → nat_le (length bytes) longest_document ≡ short → (if short then (document_at bytes >>= if_canonical bytes) else None) ≡ Some model → IsCanonicalOf model bytes
     by true short given =
         let read = bind_some (document_at bytes) (if_canonical bytes) model given in
-        of_judged (leb-true (length bytes) 67108864 short) read.0 read.1 read.2
+        of_judged (leb-true (length bytes) longest_document short) read.0 read.1 read.2
     by false short given = absurd cc
 
 -- each such model is given
@@ -140,15 +141,15 @@ unfolding canonical_model
 canonical_only bytes model is =
     let read : document_at bytes ≡ Some model = ap document_at (sym is.spelt) ∙ document_again model is.kept is.plain in
     let same : same_text (canonical_of model) bytes ≡ true = ap (same_text (canonical_of model)) (sym is.spelt) ∙ (bytes_decides (canonical_of model) (canonical_of model)).1 refl in
-    rw (le-leb (length bytes) 67108864 is.short, read, is.kept, same) refl
+    rw (le-leb (length bytes) longest_document is.short, read, is.kept, same) refl
 
 -- ---- answers
 
 -- what is given of a document that is short enough is the judgement of the model that it may be
-pub judged_gives : (bytes : List ℕ) (model : Document) (result : Result Document CanonicalError) → length bytes ≤ 67108864 → document_at bytes ≡ Some model
+pub judged_gives : (bytes : List ℕ) (model : Document) (result : Result Document CanonicalError) → length bytes ≤ longest_document → document_at bytes ≡ Some model
     → Gives (λ model. model) result (if_canonical bytes model) → Gives (λ model. model) result (canonical_model bytes)
 unfolding canonical_model
-judged_gives bytes model result short read gives = rw (le-leb (length bytes) 67108864 short, read) gives
+judged_gives bytes model result short read gives = rw (le-leb (length bytes) longest_document short, read) gives
 
 pub answer_found : (bytes : List ℕ) (result : Result Document CanonicalError) → Gives (λ model. model) result (canonical_model bytes) → IfOk result (λ model. IsCanonicalOf model bytes)
 answer_found bytes (Ok model) gives = canonical_found bytes model gives

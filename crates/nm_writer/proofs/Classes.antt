@@ -7,11 +7,12 @@ use Rattle.std.specs.List.{position_or_len}
 use Rattle.std.proofs.lemmas.List.{reverse-append, reverse-reverse, length-reverse}
 use Rattle.std.proofs.lemmas.List.Sums.{prefix_len-le-length}
 use Rattle.nm_ident.proofs.Rising.{one_plus}
-use Rattle.nm_ident.specs.Name.{ends_namespace, is_predicate, same_text, rdf_namespace, type_name}
+use Rattle.nm_terms.specs.Bytes.{same_text}
+use Rattle.nm_ident.specs.Name.{ends_namespace, is_predicate, rdf_namespace, type_name}
 use Rattle.nm_ident.specs.Order.{name_cmp, text_cmp}
 use Rattle.nm_ident.specs.QualifiedName.{QualifiedName}
 use Rattle.nm_writer.specs.Canonical.{class_of_iri, split_back, split_iri}
-use Rattle.nm_writer.specs.Spaces.{is_rdf}
+use Rattle.nm_writer.specs.Namespaces.{is_rdf}
 
 -- ---- the predicate `rdf:type`
 

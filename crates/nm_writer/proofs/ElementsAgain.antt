@@ -3,7 +3,7 @@ use Rattle.std.proofs.Common.{◌≡◌, ◌∙◌, ℕ, suc, Bool, true, false,
 use Rattle.std.specs.Prelude.{map}
 use Rattle.std.specs.List.{AllByRecursion, flat_map, list_all}
 use Rattle.nm_ident.proofs.Rising.{rises-from_test}
-use Rattle.nm_ident.specs.Ident.{id_of, is_kept_ident}
+use Rattle.nm_ident.specs.Ident.{id_of, is_sound_ident}
 use Rattle.nm_ident.specs.QualifiedName.{QualifiedName}
 use Rattle.nm_ident.specs.declared.ident.Ident.{Ident}
 use Rattle.nm_statement.proofs.Orders.{statement_cmp-total}
@@ -14,7 +14,7 @@ use Rattle.nm_statement.specs.Sound.{is_sound_set, is_sound_statement}
 use Rattle.nm_statement.specs.declared.statement.Statement.{Statement}
 use Rattle.nm_writer.specs.Canonical.{class_of, closing, element, element_of, element_start, element_tag, elements, is_about, line_feed, own, properties_of, property_line, subjects_of}
 use Rattle.nm_writer.specs.Reading.{element_at, elements_at, identity_at, is_open, set_at, stated, type_at}
-use Rattle.nm_writer.specs.Spaces.{is_rdf}
+use Rattle.nm_writer.specs.Namespaces.{is_rdf}
 use Rattle.nm_writer.proofs.Groups.{every-filter, every-subjects_of}
 use Rattle.nm_writer.proofs.ManyAgain.{many_again}
 use Rattle.nm_writer.proofs.MembersAgain.{element_of-other, has-read, has-read_of, read_of, type_of}
@@ -29,7 +29,7 @@ abbrev identity_behind : Bool → Ident → List ℕ
 identity_behind true subject = codes "rdf:ID=\"" ++ id_of subject ++ codes "\">"
 identity_behind false subject = codes "rdf:about=\"#" ++ id_of subject ++ codes "\">"
 
-identity_again : (is_new : Bool) (subject : Ident) → is_kept_ident subject ≡ true → identity_at (identity_behind is_new subject) ≡ Some subject
+identity_again : (is_new : Bool) (subject : Ident) → is_sound_ident subject ≡ true → identity_at (identity_behind is_new subject) ≡ Some subject
 unfolding identity_at
 identity_again true subject kept =
     rw (until_again 34 (codes "rdf:ID=") (id_of subject ++ codes "\">") refl, until_again 34 (id_of subject) (codes ">") (id_of-lacks_34 subject kept))
@@ -41,7 +41,7 @@ identity_again false subject kept =
       strip_again (codes "#") (id_of subject),
     ) (ident_again subject kept)
 
-identity-lacks_10 : (is_new : Bool) (subject : Ident) → is_kept_ident subject ≡ true → lacks 10 (identity_behind is_new subject) ≡ true
+identity-lacks_10 : (is_new : Bool) (subject : Ident) → is_sound_ident subject ≡ true → lacks 10 (identity_behind is_new subject) ≡ true
 identity-lacks_10 is_new subject kept = by is_new
   where
     by : (is_new : Bool) → lacks 10 (identity_behind is_new subject) ≡ true
@@ -72,14 +72,14 @@ element-parts : (tag : List ℕ) (is_new : Bool) (subject : Ident) (lines rest :
 element-parts tag true subject lines rest = start-parts tag (codes "rdf:ID=\"") (id_of subject) lines rest
 element-parts tag false subject lines rest = start-parts tag (codes "rdf:about=\"#") (id_of subject) lines rest
 
-element_read : (spaces : List (List ℕ)) (tag : List ℕ) (is_new : Bool) (subject : Ident) (type properties : List Statement) (rest : List ℕ)
-    → list_all is_tag_byte tag ≡ true → is_kept_ident subject ≡ true → type_at spaces subject tag ≡ Some type → AllByRecursion (IsWritable spaces) properties
-    → element_at spaces (60 ∷ (tag ++ 32 ∷ (identity_behind is_new subject ++ 10 ∷ (flat_map (property_line spaces) properties ++ ((60 ∷ 47 ∷ tag ++ 62 ∷ []) ++ 10 ∷ rest)))))
+element_read : (namespaces : List (List ℕ)) (tag : List ℕ) (is_new : Bool) (subject : Ident) (type properties : List Statement) (rest : List ℕ)
+    → list_all is_tag_byte tag ≡ true → is_sound_ident subject ≡ true → type_at namespaces subject tag ≡ Some type → AllByRecursion (IsWritable namespaces) properties
+    → element_at namespaces (60 ∷ (tag ++ 32 ∷ (identity_behind is_new subject ++ 10 ∷ (flat_map (property_line namespaces) properties ++ ((60 ∷ 47 ∷ tag ++ 62 ∷ []) ++ 10 ∷ rest)))))
     ≡ Some (type ++ map (stated subject) (map seen_of properties), rest)
 unfolding element_at
-element_read spaces tag is_new subject type properties rest plain kept typed writable =
+element_read namespaces tag is_new subject type properties rest plain kept typed writable =
     let end : List ℕ = 60 ∷ 47 ∷ tag ++ 62 ∷ [] in
-    let behind : List ℕ = flat_map (property_line spaces) properties ++ (end ++ 10 ∷ rest) in
+    let behind : List ℕ = flat_map (property_line namespaces) properties ++ (end ++ 10 ∷ rest) in
     let ends : lacks 10 (tag ++ 62 ∷ []) ≡ true = lacks_join 10 tag (62 ∷ []) (tag-lacks_10 tag plain) refl in
     rw (
       strip_again (60 ∷ []) (tag ++ 32 ∷ (identity_behind is_new subject ++ 10 ∷ behind)),
@@ -87,55 +87,55 @@ element_read spaces tag is_new subject type properties rest plain kept typed wri
       until_again 10 (identity_behind is_new subject) behind (identity-lacks_10 is_new subject kept),
       identity_again is_new subject kept,
       typed,
-      properties_again spaces properties (end ++ 10 ∷ rest) writable refl,
+      properties_again namespaces properties (end ++ 10 ∷ rest) writable refl,
       until_again 10 end rest ends,
     ) refl
 
 -- a class that names an element
-pub record IsClass (spaces : List (List ℕ)) (name : QualifiedName) : Type 0 where
-  pub spelt : IsSpelt spaces name
+pub record IsClass (namespaces : List (List ℕ)) (name : QualifiedName) : Type 0 where
+  pub spelt : IsSpelt namespaces name
   pub other : is_rdf name.ns ≡ false
 
 -- what an element's tag states is read again
-type_again : (spaces : List (List ℕ)) (subject : Ident) (class : Option QualifiedName) → ((name : QualifiedName) → class ≡ Some name → IsClass spaces name)
-    → type_at spaces subject (element_tag spaces class) ≡ Some (type_of subject class)
+type_again : (namespaces : List (List ℕ)) (subject : Ident) (class : Option QualifiedName) → ((name : QualifiedName) → class ≡ Some name → IsClass namespaces name)
+    → type_at namespaces subject (element_tag namespaces class) ≡ Some (type_of subject class)
 unfolding type_at
-type_again spaces subject None classes = refl
-type_again spaces subject (Some name) classes =
+type_again namespaces subject None classes = refl
+type_again namespaces subject (Some name) classes =
     let is = classes name refl in
     rw (is.spelt.element is.other, is.spelt.again) refl
 
-tag-plain : (spaces : List (List ℕ)) (class : Option QualifiedName) → ((name : QualifiedName) → class ≡ Some name → IsClass spaces name) → list_all is_tag_byte (element_tag spaces class) ≡ true
-tag-plain spaces None classes = refl
-tag-plain spaces (Some name) classes = (classes name refl).spelt.plain
+tag-plain : (namespaces : List (List ℕ)) (class : Option QualifiedName) → ((name : QualifiedName) → class ≡ Some name → IsClass namespaces name) → list_all is_tag_byte (element_tag namespaces class) ≡ true
+tag-plain namespaces None classes = refl
+tag-plain namespaces (Some name) classes = (classes name refl).spelt.plain
 
-tag-opens_element : (spaces : List (List ℕ)) (class : Option QualifiedName) (rest : List ℕ) → is_open (60 ∷ (element_tag spaces class ++ rest)) ≡ true
-tag-opens_element spaces None rest = refl
-tag-opens_element spaces (Some name) rest = tag-opens spaces name rest
+tag-opens_element : (namespaces : List (List ℕ)) (class : Option QualifiedName) (rest : List ℕ) → is_open (60 ∷ (element_tag namespaces class ++ rest)) ≡ true
+tag-opens_element namespaces None rest = refl
+tag-opens_element namespaces (Some name) rest = tag-opens namespaces name rest
 
 -- a subject whose element reads back
-pub record IsElement (spaces : List (List ℕ)) (subject : Ident) (statements : List Statement) : Type 0 where
-  pub kept : is_kept_ident subject ≡ true
-  pub writable : AllByRecursion (IsWritable spaces) (properties_of statements)
-  pub classes : (name : QualifiedName) → element_of statements ≡ Some name → IsClass spaces name
+pub record IsElement (namespaces : List (List ℕ)) (subject : Ident) (statements : List Statement) : Type 0 where
+  pub kept : is_sound_ident subject ≡ true
+  pub writable : AllByRecursion (IsWritable namespaces) (properties_of statements)
+  pub classes : (name : QualifiedName) → element_of statements ≡ Some name → IsClass namespaces name
 
-pub element_again : (is_full : Bool) (spaces : List (List ℕ)) (subject : Ident) (statements : List Statement) (rest : List ℕ) → IsElement spaces subject statements
-    → element_at spaces (element is_full spaces subject statements ++ rest) ≡ Some (read_of subject statements, rest)
-element_again is_full spaces subject statements rest fits =
+pub element_again : (is_full : Bool) (namespaces : List (List ℕ)) (subject : Ident) (statements : List Statement) (rest : List ℕ) → IsElement namespaces subject statements
+    → element_at namespaces (element is_full namespaces subject statements ++ rest) ≡ Some (read_of subject statements, rest)
+element_again is_full namespaces subject statements rest fits =
     let class = element_of statements in
     let properties = properties_of statements in
-    ap (element_at spaces) (element-parts (element_tag spaces class) (is_full && is_some class) subject (flat_map (property_line spaces) properties) rest)
-    ∙ element_read spaces (element_tag spaces class) (is_full && is_some class) subject (type_of subject class) properties rest
-    (tag-plain spaces class fits.classes) fits.kept (type_again spaces subject class fits.classes) fits.writable
+    ap (element_at namespaces) (element-parts (element_tag namespaces class) (is_full && is_some class) subject (flat_map (property_line namespaces) properties) rest)
+    ∙ element_read namespaces (element_tag namespaces class) (is_full && is_some class) subject (type_of subject class) properties rest
+    (tag-plain namespaces class fits.classes) fits.kept (type_again namespaces subject class fits.classes) fits.writable
 
-pub element-opens : (is_full : Bool) (spaces : List (List ℕ)) (subject : Ident) (statements : List Statement) (rest : List ℕ) → is_open (element is_full spaces subject statements ++ rest) ≡ true
-element-opens is_full spaces subject statements rest =
+pub element-opens : (is_full : Bool) (namespaces : List (List ℕ)) (subject : Ident) (statements : List Statement) (rest : List ℕ) → is_open (element is_full namespaces subject statements ++ rest) ≡ true
+element-opens is_full namespaces subject statements rest =
     let class = element_of statements in
     let is_new = is_full && is_some class in
-    let tag = element_tag spaces class in
-    let lines = flat_map (property_line spaces) (properties_of statements) in
+    let tag = element_tag namespaces class in
+    let lines = flat_map (property_line namespaces) (properties_of statements) in
     ap is_open (element-parts tag is_new subject lines rest)
-    ∙ tag-opens_element spaces class (32 ∷ (identity_behind is_new subject ++ 10 ∷ (lines ++ ((60 ∷ 47 ∷ tag ++ 62 ∷ []) ++ 10 ∷ rest))))
+    ∙ tag-opens_element namespaces class (32 ∷ (identity_behind is_new subject ++ 10 ∷ (lines ++ ((60 ∷ 47 ∷ tag ++ 62 ∷ []) ++ 10 ∷ rest))))
 
 -- ---- all elements
 
@@ -147,14 +147,14 @@ every-properties_of P (statement ∷ statements) all = by (is_some (class_of sta
     by true others = all.1
     by false others = (all.0, others)
 
-all_writable : (spaces : List (List ℕ)) (statements : List Statement) → list_all is_sound_statement statements ≡ true → AllByRecursion (λ statement. IsSpelt spaces statement.predicate) statements
-    → AllByRecursion (IsWritable spaces) statements
-all_writable spaces [] sound spelt = tt
-all_writable spaces (statement ∷ statements) sound spelt =
+all_writable : (namespaces : List (List ℕ)) (statements : List Statement) → list_all is_sound_statement statements ≡ true → AllByRecursion (λ statement. IsSpelt namespaces statement.predicate) statements
+    → AllByRecursion (IsWritable namespaces) statements
+all_writable namespaces [] sound spelt = tt
+all_writable namespaces (statement ∷ statements) sound spelt =
     let parts = both_hold (is_sound_statement statement) (list_all is_sound_statement statements) sound in
-    (record { sound = parts.0; spelt = spelt.0 }, all_writable spaces statements parts.1 spelt.1)
+    (record { sound = parts.0; spelt = spelt.0 }, all_writable namespaces statements parts.1 spelt.1)
 
-all_kept : (statements : List Statement) → list_all is_sound_statement statements ≡ true → AllByRecursion (λ statement. is_kept_ident statement.subject ≡ true) statements
+all_kept : (statements : List Statement) → list_all is_sound_statement statements ≡ true → AllByRecursion (λ statement. is_sound_ident statement.subject ≡ true) statements
 all_kept [] sound = tt
 all_kept (statement ∷ statements) sound =
     let parts = both_hold (is_sound_statement statement) (list_all is_sound_statement statements) sound in
@@ -172,33 +172,33 @@ about_own subject (statement ∷ statements) = by (about_own subject statements)
 abbrev read_own : List Statement → Ident → List Statement
 read_own statements subject = read_of subject (own statements subject)
 
-pub elements_again : (is_full : Bool) (spaces : List (List ℕ)) (statements : List Statement) (rest : List ℕ) → list_all is_sound_statement statements ≡ true → AreSpelt spaces statements → is_open rest ≡ false
-    → elements_at spaces (elements is_full spaces statements ++ rest) ≡ Some (flat_map (λ list. list) (map (read_own statements) (subjects_of statements)), rest)
+pub elements_again : (is_full : Bool) (namespaces : List (List ℕ)) (statements : List Statement) (rest : List ℕ) → list_all is_sound_statement statements ≡ true → AreSpelt namespaces statements → is_open rest ≡ false
+    → elements_at namespaces (elements is_full namespaces statements ++ rest) ≡ Some (flat_map (λ list. list) (map (read_own statements) (subjects_of statements)), rest)
 unfolding elements_at
-elements_again is_full spaces statements rest sound spelt ends =
-    let spell = λ (subject : Ident). element is_full spaces subject (own statements subject) in
+elements_again is_full namespaces statements rest sound spelt ends =
+    let spell = λ (subject : Ident). element is_full namespaces subject (own statements subject) in
     let bytes = flat_map spell (subjects_of statements) ++ rest in
-    let fits : (subject : Ident) → is_kept_ident subject ≡ true → IsElement spaces subject (own statements subject) =
+    let fits : (subject : Ident) → is_sound_ident subject ≡ true → IsElement namespaces subject (own statements subject) =
     λ subject kept. record {
       kept = kept;
-      writable = every-properties_of (IsWritable spaces) (own statements subject)
-          (every-filter (is_about subject) (IsWritable spaces) statements (all_writable spaces statements sound spelt.predicates));
+      writable = every-properties_of (IsWritable namespaces) (own statements subject)
+          (every-filter (is_about subject) (IsWritable namespaces) statements (all_writable namespaces statements sound spelt.predicates));
       classes = λ name is. record { spelt = spelt.classes subject name is; other = element_of-other (own statements subject) name is };
     } in
-    let read = many_again is_open (element_at spaces) spell (read_own statements) (λ subject. is_kept_ident subject ≡ true)
-    (λ subject behind kept. (element-opens is_full spaces subject (own statements subject) behind, element_again is_full spaces subject (own statements subject) behind (fits subject kept)))
-    (element_at_shrinks spaces) (subjects_of statements) rest (suc (length bytes))
-    (every-subjects_of (λ subject. is_kept_ident subject ≡ true) statements (all_kept statements sound)) ends (omega arith) in
+    let read = many_again is_open (element_at namespaces) spell (read_own statements) (λ subject. is_sound_ident subject ≡ true)
+    (λ subject behind kept. (element-opens is_full namespaces subject (own statements subject) behind, element_again is_full namespaces subject (own statements subject) behind (fits subject kept)))
+    (element_at_shrinks namespaces) (subjects_of statements) rest (suc (length bytes))
+    (every-subjects_of (λ subject. is_sound_ident subject ≡ true) statements (all_kept statements sound)) ends (omega arith) in
     rw read refl
 
 -- a set that was written is read again
-pub set_again : (is_full : Bool) (spaces : List (List ℕ)) (statements : List Statement) (rest : List ℕ) → is_sound_set statements ≡ true → AreSpelt spaces statements → is_open rest ≡ false
-    → set_at spaces (elements is_full spaces statements ++ rest) ≡ Some (statements, rest)
+pub set_again : (is_full : Bool) (namespaces : List (List ℕ)) (statements : List Statement) (rest : List ℕ) → is_sound_set statements ≡ true → AreSpelt namespaces statements → is_open rest ≡ false
+    → set_at namespaces (elements is_full namespaces statements ++ rest) ≡ Some (statements, rest)
 unfolding set_at
-set_again is_full spaces statements rest sound spelt ends =
+set_again is_full namespaces statements rest sound spelt ends =
     let parts = both_hold (is_rising statements) (list_all is_sound_statement statements) sound in
     let rising : IsRising statements = rises-from_test statement_cmp statement_cmp-total statements parts.0 in
     let members : set_of (flat_map (λ list. list) (map (read_own statements) (subjects_of statements))) ≡ statements =
     set_of-members statements (flat_map (λ list. list) (map (read_own statements) (subjects_of statements))) rising
     (λ x. has-read statements (read_own statements) x (λ subject. has-read_of subject (own statements subject) x (about_own subject statements))) in
-    rw (elements_again is_full spaces statements rest parts.1 spelt ends, members) refl
+    rw (elements_again is_full namespaces statements rest parts.1 spelt ends, members) refl

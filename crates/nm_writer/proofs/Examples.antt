@@ -10,9 +10,9 @@ use Rattle.nm_ident.specs.declared.ident.Ident.TheVariants.{Uuid, Local}
 use Rattle.nm_model.specs.declared.header.Header.{Header}
 use Rattle.nm_statement.specs.declared.object.Object.TheVariants.{Literal, Iri}
 use Rattle.nm_statement.specs.declared.statement.Statement.{Statement}
-use Rattle.nm_writer.specs.Canonical.{canonical_difference, canonical_full, class_of_iri, line_feed, spaces_of}
-use Rattle.nm_writer.specs.Escape.{attribute_spelling, text_spelling}
-use Rattle.nm_writer.specs.Spaces.{prefixes_of}
+use Rattle.nm_writer.specs.Canonical.{canonical_difference, canonical_full, class_of_iri, line_feed, namespaces_of}
+use Rattle.nm_text.specs.Escape.{attribute_spelling, text_spelling}
+use Rattle.nm_writer.specs.Namespaces.{prefixes_of}
 
 -- ---- characters
 
@@ -48,7 +48,7 @@ abbrev newer : List ℕ
 newer = codes "http://iec.ch/TC57/CIM100#"
 
 abbrev used : List (List ℕ)
-used = spaces_of ((about (codes "http://z.org/") ∷ about newer ∷ about rdf_namespace ∷ []) ∷ (about (codes "http://a.org/") ∷ about newer ∷ about cim ∷ []) ∷ [])
+used = namespaces_of ((about (codes "http://z.org/") ∷ about newer ∷ about rdf_namespace ∷ []) ∷ (about (codes "http://a.org/") ∷ about newer ∷ about cim ∷ []) ∷ [])
 
 -- each once, in the order of their bytes, without RDF's
 in_order : used ≡ codes "http://a.org/" ∷ cim ∷ newer ∷ codes "http://z.org/" ∷ []

@@ -9,12 +9,13 @@ use Rattle.nm_ident.proofs.UuidTexts.{length-uuid_text, uuid_of-uuid_text}
 use Rattle.nm_model.specs.Sound.{is_model_id, is_sound_header}
 use Rattle.nm_model.specs.declared.header.Header.{Header}
 use Rattle.nm_writer.specs.Canonical.{header_lines, line_feed, model_line, value_line}
-use Rattle.nm_writer.specs.Escape.{text_spelling}
+use Rattle.nm_text.specs.Escape.{text_spelling}
 use Rattle.nm_writer.specs.Plain.{is_plain_header}
 use Rattle.nm_writer.specs.Reading.{begins_with, front, header_at, line_close, model_at, models_at, plain_header, profile_at, profile_opening, profiles_at}
 use Rattle.nm_writer.proofs.ManyAgain.{many_again}
 use Rattle.nm_writer.proofs.Pieces.{model_at_shrinks, profile_at_shrinks, starts_itself, strip_again, until_again}
-use Rattle.nm_writer.proofs.SpellingsAgain.{text_again, text_lacks_less}
+use Rattle.nm_writer.proofs.SpellingsAgain.{text_again}
+use Rattle.nm_text.proofs.Spellings.{text_lacks_less}
 
 -- ---- the lines of models
 

@@ -15,7 +15,7 @@ pub record IsOther (bytes : List ℕ) : Type 0 where
   pub depends : begins_with (codes "<md:Model.DependentOn rdf:resource=\"urn:uuid:") bytes ≡ false
   pub supersedes : begins_with (codes "<md:Model.Supersedes rdf:resource=\"urn:uuid:") bytes ≡ false
   pub full : strip (codes "</md:FullModel>" ++ 10 ∷ []) bytes ≡ None
-  pub difference : (spaces : List (List ℕ)) → section_at spaces (codes "dm:preconditions") bytes ≡ None
+  pub difference : (namespaces : List (List ℕ)) → section_at namespaces (codes "dm:preconditions") bytes ≡ None
 
 -- the lines of five properties and those behind them, where one of the five is stated
 abbrev five_lines : Option (List ℕ) → Option (List ℕ) → Option (List ℕ) → Option (List ℕ) → Option (List ℕ) → List ℕ → List ℕ → List ℕ → List ℕ → List ℕ
@@ -36,15 +36,15 @@ one_of_five : (created scenario_time version description authority : Option (Lis
 unfolding section_at strip
 one_of_five None None None None None profiles depends supersedes rest stated = absurd cc
 one_of_five None None None None (Some text) profiles depends supersedes rest stated =
-    record { profile = refl; depends = refl; supersedes = refl; full = refl; difference = λ spaces. refl }
+    record { profile = refl; depends = refl; supersedes = refl; full = refl; difference = λ namespaces. refl }
 one_of_five None None None (Some text) authority profiles depends supersedes rest stated =
-    record { profile = refl; depends = refl; supersedes = refl; full = refl; difference = λ spaces. refl }
+    record { profile = refl; depends = refl; supersedes = refl; full = refl; difference = λ namespaces. refl }
 one_of_five None None (Some text) description authority profiles depends supersedes rest stated =
-    record { profile = refl; depends = refl; supersedes = refl; full = refl; difference = λ spaces. refl }
+    record { profile = refl; depends = refl; supersedes = refl; full = refl; difference = λ namespaces. refl }
 one_of_five None (Some text) version description authority profiles depends supersedes rest stated =
-    record { profile = refl; depends = refl; supersedes = refl; full = refl; difference = λ spaces. refl }
+    record { profile = refl; depends = refl; supersedes = refl; full = refl; difference = λ namespaces. refl }
 one_of_five (Some text) scenario_time version description authority profiles depends supersedes rest stated =
-    record { profile = refl; depends = refl; supersedes = refl; full = refl; difference = λ spaces. refl }
+    record { profile = refl; depends = refl; supersedes = refl; full = refl; difference = λ namespaces. refl }
 
 pub other_lines : (header : Header) (rest : List ℕ) → is_plain_header header ≡ false → IsOther (header_lines header ++ rest)
 other_lines header rest stated =

@@ -19,6 +19,6 @@ pub mod ElementsAgain
 pub mod HeaderAgain
 pub mod HeaderUnread
 pub mod SectionsAgain
-pub mod FewSpaces
+pub mod FewNamespaces
 pub mod DocumentsAgain
 pub mod CanonicalModels

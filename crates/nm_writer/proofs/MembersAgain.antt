@@ -21,7 +21,7 @@ use Rattle.nm_statement.specs.declared.object.Object.TheVariants.{Literal, Resou
 use Rattle.nm_statement.specs.declared.statement.Statement.{Statement}
 use Rattle.nm_writer.specs.Canonical.{class_of, class_of_iri, class_of_object, element_of, is_about, or_else, own, properties_of, split_back, split_iri, subjects_of}
 use Rattle.nm_writer.specs.Reading.{stated, type_of_class}
-use Rattle.nm_writer.specs.Spaces.{is_rdf}
+use Rattle.nm_writer.specs.Namespaces.{is_rdf}
 use Rattle.nm_writer.proofs.Pieces.{some_is}
 use Rattle.nm_writer.proofs.PropertiesAgain.{seen_of}
 use Rattle.nm_ident.proofs.Rising.{or_swap}

@@ -13,17 +13,19 @@ use Rattle.std.proofs.lemmas.List.Folds.{list_all-append}
 use Rattle.std.proofs.lemmas.List.Quantifiers.{position-Some}
 use Rattle.std.proofs.lemmas.Option.{slice_get-get_or}
 use Rattle.nm_ident.proofs.Idents.{list_all-weaker, name_bytes}
-use Rattle.nm_ident.specs.Name.{same_text, continues_name, is_name, is_predicate, rdf_namespace}
+use Rattle.nm_terms.specs.Bytes.{same_text}
+use Rattle.nm_ident.specs.Name.{continues_name, is_name, is_predicate, rdf_namespace}
 use Rattle.nm_ident.specs.QualifiedName.{QualifiedName}
 use Rattle.nm_writer.specs.Canonical.{declaration, declarations, tag_of}
-use Rattle.nm_writer.specs.Reading.{is_left, number_at, counted_place, place_at, space_at, name_at, unescaped, has_declaration, declaration_at, spaces_at}
-use Rattle.nm_writer.specs.Escape.{attribute_spelling}
-use Rattle.nm_writer.specs.Spaces.{is_rdf, cim_place, numbered_prefix, prefix_at, prefix_of, prefix_or_nothing}
+use Rattle.nm_writer.specs.Reading.{is_left, number_at, counted_place, place_at, namespace_at, name_at, unescaped, has_declaration, declaration_at, namespaces_at}
+use Rattle.nm_text.specs.Escape.{attribute_spelling}
+use Rattle.nm_writer.specs.Namespaces.{is_rdf, cim_place, numbered_prefix, prefix_at, prefix_of, prefix_or_nothing}
 use Rattle.nm_writer.proofs.ManyAgain.{many_again}
 use Rattle.nm_writer.proofs.Numbers.{is_below}
 use Rattle.nm_writer.proofs.Pieces.{lacks, until_again, declaration_at_shrinks}
 use Rattle.nm_writer.proofs.Spelt.{is_tag_byte, IsSpelt}
-use Rattle.nm_writer.proofs.SpellingsAgain.{attribute_again, attribute_lacks_quote}
+use Rattle.nm_writer.proofs.SpellingsAgain.{attribute_again}
+use Rattle.nm_text.proofs.Spellings.{attribute_lacks_quote}
 
 -- ---- numbers
 
@@ -162,106 +164,106 @@ all_entries : (entries : List Entry) → AllByRecursion (λ (entry : Entry). Uni
 all_entries [] = tt
 all_entries (entry ∷ entries) = (tt, all_entries entries)
 
-without_places : (first : ℕ) (spaces : List (List ℕ)) → map (λ (entry : Entry). entry.1) (enumerate_from first spaces) ≡ spaces
+without_places : (first : ℕ) (namespaces : List (List ℕ)) → map (λ (entry : Entry). entry.1) (enumerate_from first namespaces) ≡ namespaces
 without_places first [] = refl
-without_places first (ns ∷ spaces) = ap (λ (others : List (List ℕ)). ns ∷ others) (without_places (first + 1) spaces)
+without_places first (ns ∷ namespaces) = ap (λ (others : List (List ℕ)). ns ∷ others) (without_places (first + 1) namespaces)
 
 -- the namespaces are read again from their declarations
-pub spaces_again : (spaces : List (List ℕ)) (rest : List ℕ) → has_declaration rest ≡ false → spaces_at (declarations spaces ++ rest) ≡ Some (spaces, rest)
-unfolding spaces_at
-spaces_again spaces rest ends =
-    let cim = cim_place spaces in
-    let entries = enumerate_from 0 spaces in
+pub namespaces_again : (namespaces : List (List ℕ)) (rest : List ℕ) → has_declaration rest ≡ false → namespaces_at (declarations namespaces ++ rest) ≡ Some (namespaces, rest)
+unfolding namespaces_at
+namespaces_again namespaces rest ends =
+    let cim = cim_place namespaces in
+    let entries = enumerate_from 0 namespaces in
     many_again has_declaration declaration_at (spelt_entry cim) (λ (entry : Entry). entry.1) (λ (entry : Entry). Unit {0})
     (λ entry behind fits. (refl, declaration_again (prefix_at cim entry.0) entry.1 behind (prefix_at_lacks_quote cim entry.0))) declaration_at_shrinks entries rest
-    (suc (length (declarations spaces ++ rest))) (all_entries entries) ends (omega arith)
-    ∙ ap (λ (read : List (List ℕ)). Some (read, rest)) (without_places 0 spaces)
+    (suc (length (declarations namespaces ++ rest))) (all_entries entries) ends (omega arith)
+    ∙ ap (λ (read : List (List ℕ)). Some (read, rest)) (without_places 0 namespaces)
 
-entries_at_least : (cim : Option ℕ) (first : ℕ) (spaces : List (List ℕ)) → length spaces ≤ length (flat_map (spelt_entry cim) (enumerate_from first spaces))
+entries_at_least : (cim : Option ℕ) (first : ℕ) (namespaces : List (List ℕ)) → length namespaces ≤ length (flat_map (spelt_entry cim) (enumerate_from first namespaces))
 entries_at_least cim first [] = omega arith
-entries_at_least cim first (ns ∷ spaces) =
-    omega (arith, entries_at_least cim (first + 1) spaces, length-append (spelt_entry cim (first, ns)) (flat_map (spelt_entry cim) (enumerate_from (first + 1) spaces)))
+entries_at_least cim first (ns ∷ namespaces) =
+    omega (arith, entries_at_least cim (first + 1) namespaces, length-append (spelt_entry cim (first, ns)) (flat_map (spelt_entry cim) (enumerate_from (first + 1) namespaces)))
 
 -- each declaration takes a byte at least
-pub spaces_at_most : (spaces : List (List ℕ)) → length spaces ≤ length (declarations spaces)
-spaces_at_most spaces = entries_at_least (cim_place spaces) 0 spaces
+pub namespaces_at_most : (namespaces : List (List ℕ)) → length namespaces ≤ length (declarations namespaces)
+namespaces_at_most namespaces = entries_at_least (cim_place namespaces) 0 namespaces
 
 -- ---- names
 
 -- a namespace that has its prefix: RDF's has one in every document
 abbrev pub IsDeclared : List (List ℕ) → List ℕ → Type 0
-IsDeclared spaces ns = is_rdf ns ≡ false → (place : ℕ) × (position (same_text ns) spaces ≡ Some place)
+IsDeclared namespaces ns = is_rdf ns ≡ false → (place : ℕ) × (position (same_text ns) namespaces ≡ Some place)
 
-place_at_space_again : (spaces : List (List ℕ)) (ns : List ℕ) (place : ℕ) → length spaces < 2 ^ 64 - 1 → position (same_text ns) spaces ≡ Some place
-    → space_at spaces (prefix_at (cim_place spaces) place) ≡ Some ns
-unfolding space_at
-place_at_space_again spaces ns place small found =
-    let at = position-Some (same_text ns) spaces place [] found in
-    let within : place < length spaces = at.0 in
-    let other : same_text (prefix_at (cim_place spaces) place) (codes "rdf") ≡ false =
-    ap (λ (prefix : List ℕ). same_text prefix (codes "rdf")) (sym (append-nil (prefix_at (cim_place spaces) place))) ∙ prefix_at_apart (cim_place spaces) place [] (codes "df") in
-    let here : place_at (cim_place spaces) (prefix_at (cim_place spaces) place) ≡ Some place = place_again (cim_place spaces) place (omega arith) in
-    let same : ns ≡ get_or spaces place [] = (bytes_decides ns (get_or spaces place [])).0 at.1 in
-    rw (other, here, slice_get-get_or spaces place [] within) (ap Some (sym same))
+place_at_namespace_again : (namespaces : List (List ℕ)) (ns : List ℕ) (place : ℕ) → length namespaces < 2 ^ 64 - 1 → position (same_text ns) namespaces ≡ Some place
+    → namespace_at namespaces (prefix_at (cim_place namespaces) place) ≡ Some ns
+unfolding namespace_at
+place_at_namespace_again namespaces ns place small found =
+    let at = position-Some (same_text ns) namespaces place [] found in
+    let within : place < length namespaces = at.0 in
+    let other : same_text (prefix_at (cim_place namespaces) place) (codes "rdf") ≡ false =
+    ap (λ (prefix : List ℕ). same_text prefix (codes "rdf")) (sym (append-nil (prefix_at (cim_place namespaces) place))) ∙ prefix_at_apart (cim_place namespaces) place [] (codes "df") in
+    let here : place_at (cim_place namespaces) (prefix_at (cim_place namespaces) place) ≡ Some place = place_again (cim_place namespaces) place (omega arith) in
+    let same : ns ≡ get_or namespaces place [] = (bytes_decides ns (get_or namespaces place [])).0 at.1 in
+    rw (other, here, slice_get-get_or namespaces place [] within) (ap Some (sym same))
 
 -- a namespace is read again from its prefix
-pub space_again : (spaces : List (List ℕ)) (ns : List ℕ) → length spaces < 2 ^ 64 - 1 → IsDeclared spaces ns → space_at spaces (prefix_of spaces ns) ≡ Some ns
-unfolding space_at
-space_again spaces ns small declared = by (is_rdf ns) refl
+pub namespace_again : (namespaces : List (List ℕ)) (ns : List ℕ) → length namespaces < 2 ^ 64 - 1 → IsDeclared namespaces ns → namespace_at namespaces (prefix_of namespaces ns) ≡ Some ns
+unfolding namespace_at
+namespace_again namespaces ns small declared = by (is_rdf ns) refl
   where
-    by : (rdf : Bool) → is_rdf ns ≡ rdf → space_at spaces (prefix_of spaces ns) ≡ Some ns
+    by : (rdf : Bool) → is_rdf ns ≡ rdf → namespace_at namespaces (prefix_of namespaces ns) ≡ Some ns
     by true is = rw is (ap Some (sym ((bytes_decides ns rdf_namespace).0 is)))
     by false is =
         let at = declared is in
-        let found : position (same_text ns) spaces ≡ Some at.0 = at.1 in
-        rw (is, found) (place_at_space_again spaces ns at.0 small found)
+        let found : position (same_text ns) namespaces ≡ Some at.0 = at.1 in
+        rw (is, found) (place_at_namespace_again namespaces ns at.0 small found)
 
-prefix_of_bytes : (spaces : List (List ℕ)) (ns : List ℕ) → list_all continues_name (prefix_of spaces ns) ≡ true
-prefix_of_bytes spaces ns = by (is_rdf ns) (position (same_text ns) spaces)
+prefix_of_bytes : (namespaces : List (List ℕ)) (ns : List ℕ) → list_all continues_name (prefix_of namespaces ns) ≡ true
+prefix_of_bytes namespaces ns = by (is_rdf ns) (position (same_text ns) namespaces)
   where
-    by : (rdf : Bool) (place : Option ℕ) → list_all continues_name (if rdf then codes "rdf" else prefix_or_nothing spaces place) ≡ true
+    by : (rdf : Bool) (place : Option ℕ) → list_all continues_name (if rdf then codes "rdf" else prefix_or_nothing namespaces place) ≡ true
     by true place = refl
     by false None = refl
-    by false (Some place) = prefix_at_bytes (cim_place spaces) place
+    by false (Some place) = prefix_at_bytes (cim_place namespaces) place
 
-tag_parts : (spaces : List (List ℕ)) (name : QualifiedName) → tag_of spaces name ≡ prefix_of spaces name.ns ++ 58 ∷ name.local
-tag_parts spaces name = append_assoc (prefix_of spaces name.ns) (58 ∷ []) name.local
+tag_parts : (namespaces : List (List ℕ)) (name : QualifiedName) → tag_of namespaces name ≡ prefix_of namespaces name.ns ++ 58 ∷ name.local
+tag_parts namespaces name = append_assoc (prefix_of namespaces name.ns) (58 ∷ []) name.local
 
-parted_name : (spaces : List (List ℕ)) (name : QualifiedName) (prefix : List ℕ) → lacks 58 prefix ≡ true → space_at spaces prefix ≡ Some name.ns → is_predicate name ≡ true
-    → name_at spaces (prefix ++ 58 ∷ name.local) ≡ Some name
+parted_name : (namespaces : List (List ℕ)) (name : QualifiedName) (prefix : List ℕ) → lacks 58 prefix ≡ true → namespace_at namespaces prefix ≡ Some name.ns → is_predicate name ≡ true
+    → name_at namespaces (prefix ++ 58 ∷ name.local) ≡ Some name
 unfolding name_at
-parted_name spaces name prefix plain read kept = rw (until_again 58 prefix name.local plain, read, kept) refl
+parted_name namespaces name prefix plain read kept = rw (until_again 58 prefix name.local plain, read, kept) refl
 
 -- a name is read again from its tag
-pub name_again : (spaces : List (List ℕ)) (name : QualifiedName) → is_predicate name ≡ true → length spaces < 2 ^ 64 - 1 → IsDeclared spaces name.ns
-    → name_at spaces (tag_of spaces name) ≡ Some name
-name_again spaces name kept small declared =
-    let prefix = prefix_of spaces name.ns in
-    let plain : lacks 58 prefix ≡ true = list_all-weaker continues_name (λ byte. not (byte == 58)) name_byte_is_no_colon prefix (prefix_of_bytes spaces name.ns) in
-    ap (name_at spaces) (tag_parts spaces name) ∙ parted_name spaces name prefix plain (space_again spaces name.ns small declared) kept
+pub name_again : (namespaces : List (List ℕ)) (name : QualifiedName) → is_predicate name ≡ true → length namespaces < 2 ^ 64 - 1 → IsDeclared namespaces name.ns
+    → name_at namespaces (tag_of namespaces name) ≡ Some name
+name_again namespaces name kept small declared =
+    let prefix = prefix_of namespaces name.ns in
+    let plain : lacks 58 prefix ≡ true = list_all-weaker continues_name (λ byte. not (byte == 58)) name_byte_is_no_colon prefix (prefix_of_bytes namespaces name.ns) in
+    ap (name_at namespaces) (tag_parts namespaces name) ∙ parted_name namespaces name prefix plain (namespace_again namespaces name.ns small declared) kept
 
 predicate_is_named : (name : QualifiedName) → is_predicate name ≡ true → is_name name.local ≡ true
 predicate_is_named name kept = grind arith
 
-tag_bytes : (spaces : List (List ℕ)) (name : QualifiedName) → is_name name.local ≡ true → list_all is_tag_byte (tag_of spaces name) ≡ true
-tag_bytes spaces name named =
-    let prefix = prefix_of spaces name.ns in
-    let first : list_all is_tag_byte prefix ≡ true = list_all-weaker continues_name is_tag_byte name_byte_is_tag_byte prefix (prefix_of_bytes spaces name.ns) in
+tag_bytes : (namespaces : List (List ℕ)) (name : QualifiedName) → is_name name.local ≡ true → list_all is_tag_byte (tag_of namespaces name) ≡ true
+tag_bytes namespaces name named =
+    let prefix = prefix_of namespaces name.ns in
+    let first : list_all is_tag_byte prefix ≡ true = list_all-weaker continues_name is_tag_byte name_byte_is_tag_byte prefix (prefix_of_bytes namespaces name.ns) in
     let last : list_all is_tag_byte name.local ≡ true = list_all-weaker continues_name is_tag_byte name_byte_is_tag_byte name.local (name_bytes name.local named) in
-    ap (list_all is_tag_byte) (tag_parts spaces name) ∙ list_all-append is_tag_byte prefix (58 ∷ name.local) ∙ rw (first, last) refl
+    ap (list_all is_tag_byte) (tag_parts namespaces name) ∙ list_all-append is_tag_byte prefix (58 ∷ name.local) ∙ rw (first, last) refl
 
 -- what names a class does not read as `rdf:Description`
-tag_apart : (spaces : List (List ℕ)) (name : QualifiedName) → IsDeclared spaces name.ns → is_rdf name.ns ≡ false → same_text (tag_of spaces name) (codes "rdf:Description") ≡ false
-tag_apart spaces name declared other =
+tag_apart : (namespaces : List (List ℕ)) (name : QualifiedName) → IsDeclared namespaces name.ns → is_rdf name.ns ≡ false → same_text (tag_of namespaces name) (codes "rdf:Description") ≡ false
+tag_apart namespaces name declared other =
     let at = declared other in
-    let found : position (same_text name.ns) spaces ≡ Some at.0 = at.1 in
-    ap (λ (tag : List ℕ). same_text tag (codes "rdf:Description")) (tag_parts spaces name)
-    ∙ rw (other, found) (prefix_at_apart (cim_place spaces) at.0 (58 ∷ name.local) (codes "df:Description"))
+    let found : position (same_text name.ns) namespaces ≡ Some at.0 = at.1 in
+    ap (λ (tag : List ℕ). same_text tag (codes "rdf:Description")) (tag_parts namespaces name)
+    ∙ rw (other, found) (prefix_at_apart (cim_place namespaces) at.0 (58 ∷ name.local) (codes "df:Description"))
 
 -- a name that may be kept, of a namespace that is declared, is spelt
-pub spelt_name : (spaces : List (List ℕ)) (name : QualifiedName) → is_predicate name ≡ true → length spaces < 2 ^ 64 - 1 → IsDeclared spaces name.ns → IsSpelt spaces name
-spelt_name spaces name kept small declared = record {
-  again = name_again spaces name kept small declared;
-  plain = tag_bytes spaces name (predicate_is_named name kept);
-  element = tag_apart spaces name declared;
+pub spelt_name : (namespaces : List (List ℕ)) (name : QualifiedName) → is_predicate name ≡ true → length namespaces < 2 ^ 64 - 1 → IsDeclared namespaces name.ns → IsSpelt namespaces name
+spelt_name namespaces name kept small declared = record {
+  again = name_again namespaces name kept small declared;
+  plain = tag_bytes namespaces name (predicate_is_named name kept);
+  element = tag_apart namespaces name declared;
 }

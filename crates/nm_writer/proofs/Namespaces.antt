@@ -14,10 +14,10 @@ use Rattle.std.proofs.lemmas.List.Sorted.{searchable_from_sorted}
 use Rattle.std.proofs.lemmas.List.Sums.{position_or_len_is}
 use Rattle.std.proofs.lemmas.Map.Keys.{Less-from_sorted}
 use Rattle.std.proofs.lemmas.Map.Lookups.{exact_bytes}
-use Rattle.nm_ident.specs.Name.{same_text}
+use Rattle.nm_terms.specs.Bytes.{same_text}
 use Rattle.nm_ident.specs.Order.{text_cmp}
 use Rattle.nm_writer.specs.Canonical.{declaration}
-use Rattle.nm_writer.specs.Spaces.{insert_text, rising_texts, is_rdf, with_space, cim_place, prefix_at, prefix_of, prefixes_of, IsPlaceOf}
+use Rattle.nm_writer.specs.Namespaces.{insert_text, rising_texts, is_rdf, with_namespace, cim_place, prefix_at, prefix_of, prefixes_of, IsPlaceOf}
 use Rattle.nm_ident.proofs.Rising.{has_by, has-insert_key, rising-insert_key, turned, same_members}
 use Rattle.nm_writer.proofs.Places.{rising-nil, insert-is, insert-there, turned_back}
 
@@ -40,36 +40,36 @@ position-nowhere p xs e = rw (e, le-ltb (length xs) (length xs) (omega arith)) r
 not_same : (x y : List ℕ) (r : Ordering) → text_cmp x y ≡ r → is_eq r ≡ false → same_text x y ≡ false
 not_same x y r e apart = texts_ties x y ∙ ap is_eq e ∙ apart
 
-module _ (spaces : List (List ℕ)) (ns : List ℕ) (s : IsStrictlySortedBy text_cmp spaces) where
-  below_at : (i : ℕ) (d : List ℕ) → text_cmp (get_or spaces i d) ns ≡ Equal → i < length spaces → (k : ℕ) → k < i → same_text ns (get_or spaces k d) ≡ false
+module _ (namespaces : List (List ℕ)) (ns : List ℕ) (s : IsStrictlySortedBy text_cmp namespaces) where
+  below_at : (i : ℕ) (d : List ℕ) → text_cmp (get_or namespaces i d) ns ≡ Equal → i < length namespaces → (k : ℕ) → k < i → same_text ns (get_or namespaces k d) ≡ false
   below_at i d tie within k before =
-      let x = get_or spaces k d in
-      let y = get_or spaces i d in
-      let less : text_cmp x y ≡ Less = Less-from_sorted text_cmp spaces k i d s before within in
+      let x = get_or namespaces k d in
+      let y = get_or namespaces i d in
+      let less : text_cmp x y ≡ Less = Less-from_sorted text_cmp namespaces k i d s before within in
       let below : text_cmp x ns ≡ Less = sym (alike_right text_total y ns x tie) ∙ less in
       not_same ns x Greater (turned_back text_total ns x below) refl
 
-  pub place_is : (r : Result ℕ ℕ) → IsSearchInRange r (length spaces) → IsBinarySearchResult (λ y. text_cmp y ns) spaces r → IsPlaceOf spaces ns r
+  pub place_is : (r : Result ℕ ℕ) → IsSearchInRange r (length namespaces) → IsBinarySearchResult (λ y. text_cmp y ns) namespaces r → IsPlaceOf namespaces ns r
   place_is (Ok i) within found =
       let tie = found [] in (
         within,
-        position-at (same_text ns) spaces i
-            (position_or_len_is (same_text ns) spaces i [] (omega arith) (below_at i [] tie within)
-            (λ l. texts_ties ns (get_or spaces i []) ∙ ap is_eq (text_total.antisymm ns (get_or spaces i []) ∙ ap ordering_reverse tie))) within,
-        insert-there text_total spaces ns i [] within tie s,
+        position-at (same_text ns) namespaces i
+            (position_or_len_is (same_text ns) namespaces i [] (omega arith) (below_at i [] tie within)
+            (λ l. texts_ties ns (get_or namespaces i []) ∙ ap is_eq (text_total.antisymm ns (get_or namespaces i []) ∙ ap ordering_reverse tie))) within,
+        insert-there text_total namespaces ns i [] within tie s,
       )
   place_is (Err i) within found =
-      let split = found (searchable_from_sorted text_total (λ y. y) spaces ns (sorted_from_rising text_total spaces s)) in (
+      let split = found (searchable_from_sorted text_total (λ y. y) namespaces ns (sorted_from_rising text_total namespaces s)) in (
         within,
-        position-nowhere (same_text ns) spaces
-            (position_or_len_is (same_text ns) spaces (length spaces) [] (omega arith) (λ k l. apart k l split) (λ l. absurd (omega arith))),
-        insert-is text_total spaces ns i within split.0 split.1,
+        position-nowhere (same_text ns) namespaces
+            (position_or_len_is (same_text ns) namespaces (length namespaces) [] (omega arith) (λ k l. apart k l split) (λ l. absurd (omega arith))),
+        insert-is text_total namespaces ns i within split.0 split.1,
       )
     where
-      apart : (k : ℕ) → k < length spaces → AllWithin (λ y. text_cmp y ns ≡ Less) spaces 0 i × AllWithin (λ y. text_cmp y ns ≡ Greater) spaces i (length spaces) → same_text ns (get_or spaces k []) ≡ false
+      apart : (k : ℕ) → k < length namespaces → AllWithin (λ y. text_cmp y ns ≡ Less) namespaces 0 i × AllWithin (λ y. text_cmp y ns ≡ Greater) namespaces i (length namespaces) → same_text ns (get_or namespaces k []) ≡ false
       apart k l split = ⊎_elim
-          (λ before. not_same ns (get_or spaces k []) Greater (turned_back text_total ns (get_or spaces k []) (split.0 k [] (omega arith) before)) refl)
-          (λ after. not_same ns (get_or spaces k []) Less (turned text_total (get_or spaces k []) ns (split.1 k [] after l)) refl)
+          (λ before. not_same ns (get_or namespaces k []) Greater (turned_back text_total ns (get_or namespaces k []) (split.0 k [] (omega arith) before)) refl)
+          (λ after. not_same ns (get_or namespaces k []) Less (turned text_total (get_or namespaces k []) ns (split.1 k [] after l)) refl)
           (cases_lt k i)
 
 -- ---- what a list of namespaces makes
@@ -80,16 +80,16 @@ has texts text = has_by text_total texts text
 abbrev declared : List (List ℕ) → List (List ℕ)
 declared texts = filter (λ ns. not (is_rdf ns)) texts
 
-rising-with_space : (spaces : List (List ℕ)) (ns : List ℕ) → IsStrictlySortedBy text_cmp spaces → IsStrictlySortedBy text_cmp (with_space spaces ns)
-rising-with_space spaces ns s = by (is_rdf ns)
+rising-with_namespace : (namespaces : List (List ℕ)) (ns : List ℕ) → IsStrictlySortedBy text_cmp namespaces → IsStrictlySortedBy text_cmp (with_namespace namespaces ns)
+rising-with_namespace namespaces ns s = by (is_rdf ns)
   where
-    by : (b : Bool) → IsStrictlySortedBy text_cmp (if b then spaces else insert_text ns spaces)
+    by : (b : Bool) → IsStrictlySortedBy text_cmp (if b then namespaces else insert_text ns namespaces)
     by true = s
-    by false = rising-insert_key text_total spaces ns s
+    by false = rising-insert_key text_total namespaces ns s
 
-rising-fold : (xs spaces : List (List ℕ)) → IsStrictlySortedBy text_cmp spaces → IsStrictlySortedBy text_cmp (fold with_space spaces xs)
-rising-fold [] spaces s = s
-rising-fold (ns ∷ xs) spaces s = rising-fold xs (with_space spaces ns) (rising-with_space spaces ns s)
+rising-fold : (xs namespaces : List (List ℕ)) → IsStrictlySortedBy text_cmp namespaces → IsStrictlySortedBy text_cmp (fold with_namespace namespaces xs)
+rising-fold [] namespaces s = s
+rising-fold (ns ∷ xs) namespaces s = rising-fold xs (with_namespace namespaces ns) (rising-with_namespace namespaces ns s)
 
 or_false : (b : Bool) → (b || false) ≡ b
 or_false true = refl
@@ -100,15 +100,15 @@ or_move true true c = refl
 or_move true false c = refl
 or_move false b c = refl
 
-has-fold : (xs spaces : List (List ℕ)) (q : List ℕ) → has (fold with_space spaces xs) q ≡ (has spaces q || has (declared xs) q)
-has-fold [] spaces q = sym (or_false (has spaces q))
-has-fold (ns ∷ xs) spaces q = has-fold xs (with_space spaces ns) q ∙ by (is_rdf ns)
+has-fold : (xs namespaces : List (List ℕ)) (q : List ℕ) → has (fold with_namespace namespaces xs) q ≡ (has namespaces q || has (declared xs) q)
+has-fold [] namespaces q = sym (or_false (has namespaces q))
+has-fold (ns ∷ xs) namespaces q = has-fold xs (with_namespace namespaces ns) q ∙ by (is_rdf ns)
   where
-    by : (b : Bool) → (has (if b then spaces else insert_text ns spaces) q || has (declared xs) q) ≡ (has spaces q || has (cond (not b) (ns ∷ declared xs) (declared xs)) q)
+    by : (b : Bool) → (has (if b then namespaces else insert_text ns namespaces) q || has (declared xs) q) ≡ (has namespaces q || has (cond (not b) (ns ∷ declared xs) (declared xs)) q)
     by true = refl
     by false =
-        ap (λ b. b || has (declared xs) q) (has-insert_key text_total spaces ns q)
-        ∙ or_move (eq_by_cmp text_cmp q ns) (has spaces q) (has (declared xs) q)
+        ap (λ b. b || has (declared xs) q) (has-insert_key text_total namespaces ns q)
+        ∙ or_move (eq_by_cmp text_cmp q ns) (has namespaces q) (has (declared xs) q)
 
 rising-rising_texts : (xs : List (List ℕ)) → IsStrictlySortedBy text_cmp (rising_texts xs)
 rising-rising_texts [] = rising-nil text_total
@@ -119,54 +119,54 @@ has-rising_texts [] q = refl
 has-rising_texts (x ∷ xs) q = has-insert_key text_total (rising_texts xs) x q ∙ ap (λ b. eq_by_cmp text_cmp q x || b) (has-rising_texts xs q)
 
 -- namespaces that are added one by one are the declared ones in order
-pub gathered : (xs : List (List ℕ)) → fold with_space [] xs ≡ rising_texts (declared xs)
+pub gathered : (xs : List (List ℕ)) → fold with_namespace [] xs ≡ rising_texts (declared xs)
 gathered xs =
-    same_members text_total exact_bytes (fold with_space [] xs) (rising_texts (declared xs)) (rising-fold xs [] (rising-nil text_total)) (rising-rising_texts (declared xs))
+    same_members text_total exact_bytes (fold with_namespace [] xs) (rising_texts (declared xs)) (rising-fold xs [] (rising-nil text_total)) (rising-rising_texts (declared xs))
     (λ q. has-fold xs [] q ∙ sym (has-rising_texts (declared xs) q))
 
 -- ---- prefixes
 
-pub length-prefixes_of : (spaces : List (List ℕ)) → length (prefixes_of spaces) ≡ length spaces
-length-prefixes_of spaces = length-map-range_with_len (prefix_at (cim_place spaces)) 0 (length spaces)
+pub length-prefixes_of : (namespaces : List (List ℕ)) → length (prefixes_of namespaces) ≡ length namespaces
+length-prefixes_of namespaces = length-map-range_with_len (prefix_at (cim_place namespaces)) 0 (length namespaces)
 
 -- the prefix at the place of a namespace is its own
-pub prefix_of-is : (spaces : List (List ℕ)) (ns prefix : List ℕ) (place : ℕ) → is_rdf ns ≡ false → place < length spaces → position (same_text ns) spaces ≡ Some place
-    → prefix ≡ get_or (prefixes_of spaces) place prefix → prefix ≡ prefix_of spaces ns
-prefix_of-is spaces ns prefix place other within found read =
-    read ∙ get_or-map-range_with_len (prefix_at (cim_place spaces)) 0 (length spaces) place place prefix within (omega arith) ∙ sym (rw (other, found) refl)
+pub prefix_of-is : (namespaces : List (List ℕ)) (ns prefix : List ℕ) (place : ℕ) → is_rdf ns ≡ false → place < length namespaces → position (same_text ns) namespaces ≡ Some place
+    → prefix ≡ get_or (prefixes_of namespaces) place prefix → prefix ≡ prefix_of namespaces ns
+prefix_of-is namespaces ns prefix place other within found read =
+    read ∙ get_or-map-range_with_len (prefix_at (cim_place namespaces)) 0 (length namespaces) place place prefix within (omega arith) ∙ sym (rw (other, found) refl)
 
 -- ---- declarations
 
 abbrev pub entry_of : List (List ℕ) → ℕ × List ℕ → List ℕ
-entry_of spaces entry = declaration (prefix_at (cim_place spaces) entry.0) entry.1
+entry_of namespaces entry = declaration (prefix_at (cim_place namespaces) entry.0) entry.1
 
 -- the declarations from a place on
 abbrev pub declarations_from : List (List ℕ) → ℕ → List ℕ
-declarations_from spaces place = flat_map (entry_of spaces) (enumerate_from place (drop place spaces))
+declarations_from namespaces place = flat_map (entry_of namespaces) (enumerate_from place (drop place namespaces))
 
-declarations_from-more : (spaces : List (List ℕ)) (place : ℕ) (ns prefix : List ℕ) → place < length spaces → ns ≡ get_or spaces place ns
-    → prefix ≡ get_or (prefixes_of spaces) place prefix → declarations_from spaces place ≡ declaration prefix ns ++ declarations_from spaces (place + 1)
-declarations_from-more spaces place ns prefix within here named =
-    let first : drop place spaces ≡ ns ∷ drop (place + 1) spaces = drop_more spaces place ns within ∙ ap (λ (x : List ℕ). x ∷ drop (place + 1) spaces) (sym here) in
-    let is : prefix ≡ prefix_at (cim_place spaces) place =
-    named ∙ get_or-map-range_with_len (prefix_at (cim_place spaces)) 0 (length spaces) place place prefix within (omega arith) in
-    ap (λ (xs : List (List ℕ)). flat_map (entry_of spaces) (enumerate_from place xs)) first
-    ∙ ap (λ (x : List ℕ). declaration x ns ++ declarations_from spaces (place + 1)) (sym is)
+declarations_from-more : (namespaces : List (List ℕ)) (place : ℕ) (ns prefix : List ℕ) → place < length namespaces → ns ≡ get_or namespaces place ns
+    → prefix ≡ get_or (prefixes_of namespaces) place prefix → declarations_from namespaces place ≡ declaration prefix ns ++ declarations_from namespaces (place + 1)
+declarations_from-more namespaces place ns prefix within here named =
+    let first : drop place namespaces ≡ ns ∷ drop (place + 1) namespaces = drop_more namespaces place ns within ∙ ap (λ (x : List ℕ). x ∷ drop (place + 1) namespaces) (sym here) in
+    let is : prefix ≡ prefix_at (cim_place namespaces) place =
+    named ∙ get_or-map-range_with_len (prefix_at (cim_place namespaces)) 0 (length namespaces) place place prefix within (omega arith) in
+    ap (λ (xs : List (List ℕ)). flat_map (entry_of namespaces) (enumerate_from place xs)) first
+    ∙ ap (λ (x : List ℕ). declaration x ns ++ declarations_from namespaces (place + 1)) (sym is)
 
 -- one declaration more
-pub declarations_step : (spaces : List (List ℕ)) (place next : ℕ) (ns prefix out after all : List ℕ) → next ≡ place + 1 → place < length spaces → ns ≡ get_or spaces place ns
-    → prefix ≡ get_or (prefixes_of spaces) place prefix → after ≡ out ++ declaration prefix ns
-    → out ++ declarations_from spaces place ≡ all → after ++ declarations_from spaces next ≡ all
-declarations_step spaces place next ns prefix out after all one within here named appended so_far =
-    ap (λ (n : ℕ). after ++ declarations_from spaces n) one
-    ∙ ap (λ (xs : List ℕ). xs ++ declarations_from spaces (place + 1)) appended
-    ∙ append_assoc out (declaration prefix ns) (declarations_from spaces (place + 1))
-    ∙ ap (λ (xs : List ℕ). out ++ xs) (sym (declarations_from-more spaces place ns prefix within here named))
+pub declarations_step : (namespaces : List (List ℕ)) (place next : ℕ) (ns prefix out after all : List ℕ) → next ≡ place + 1 → place < length namespaces → ns ≡ get_or namespaces place ns
+    → prefix ≡ get_or (prefixes_of namespaces) place prefix → after ≡ out ++ declaration prefix ns
+    → out ++ declarations_from namespaces place ≡ all → after ++ declarations_from namespaces next ≡ all
+declarations_step namespaces place next ns prefix out after all one within here named appended so_far =
+    ap (λ (n : ℕ). after ++ declarations_from namespaces n) one
+    ∙ ap (λ (xs : List ℕ). xs ++ declarations_from namespaces (place + 1)) appended
+    ∙ append_assoc out (declaration prefix ns) (declarations_from namespaces (place + 1))
+    ∙ ap (λ (xs : List ℕ). out ++ xs) (sym (declarations_from-more namespaces place ns prefix within here named))
     ∙ so_far
 
 -- no declaration more
-pub declarations_end : (spaces : List (List ℕ)) (place : ℕ) (out all : List ℕ) → length spaces ≤ place → out ++ declarations_from spaces place ≡ all → out ≡ all
-declarations_end spaces place out all past so_far =
+pub declarations_end : (namespaces : List (List ℕ)) (place : ℕ) (out all : List ℕ) → length namespaces ≤ place → out ++ declarations_from namespaces place ≡ all → out ≡ all
+declarations_end namespaces place out all past so_far =
     sym (append-nil out)
-    ∙ ap (λ (xs : List (List ℕ)). out ++ flat_map (entry_of spaces) (enumerate_from place xs)) (sym (drop_all place spaces past))
+    ∙ ap (λ (xs : List (List ℕ)). out ++ flat_map (entry_of namespaces) (enumerate_from place xs)) (sym (drop_all place namespaces past))
     ∙ so_far

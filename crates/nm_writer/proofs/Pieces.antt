@@ -164,39 +164,39 @@ profile_at_shrinks bytes x e =
     subst (λ (r : Read (List ℕ)). length r.1 < length bytes) (some_is (text.0, closing.0.1) x text.2)
     (omega (arith, strip_keeps profile_opening bytes behind.0 behind.1, until_shrinks 60 behind.0 spelling.0 spelling.1, until_shrinks 10 spelling.0.1 closing.0 closing.1))
 
-value_at_keeps : (spaces : List (List ℕ)) (tag bytes : List ℕ) (x : Read Property) → value_at spaces tag bytes ≡ Some x → length x.1 ≤ length bytes
+value_at_keeps : (namespaces : List (List ℕ)) (tag bytes : List ℕ) (x : Read Property) → value_at namespaces tag bytes ≡ Some x → length x.1 ≤ length bytes
 unfolding value_at
-value_at_keeps spaces tag bytes x e =
-    let spelling = bind_some (until 60 bytes) (λ spelling. until 10 spelling.1 >>= λ closing. unescaped spelling.0 >>= λ text. kept_literal text >>= λ object. name_at spaces tag >>= λ name. Some ((name, object), closing.1)) x e in
-    let closing = bind_some (until 10 spelling.0.1) (λ closing. unescaped spelling.0.0 >>= λ text. kept_literal text >>= λ object. name_at spaces tag >>= λ name. Some ((name, object), closing.1)) x spelling.2 in
-    let text = bind_some (unescaped spelling.0.0) (λ text. kept_literal text >>= λ object. name_at spaces tag >>= λ name. Some ((name, object), closing.0.1)) x closing.2 in
-    let object = bind_some (kept_literal text.0) (λ object. name_at spaces tag >>= λ name. Some ((name, object), closing.0.1)) x text.2 in
-    let name = bind_some (name_at spaces tag) (λ name. Some ((name, object.0), closing.0.1)) x object.2 in
+value_at_keeps namespaces tag bytes x e =
+    let spelling = bind_some (until 60 bytes) (λ spelling. until 10 spelling.1 >>= λ closing. unescaped spelling.0 >>= λ text. kept_literal text >>= λ object. name_at namespaces tag >>= λ name. Some ((name, object), closing.1)) x e in
+    let closing = bind_some (until 10 spelling.0.1) (λ closing. unescaped spelling.0.0 >>= λ text. kept_literal text >>= λ object. name_at namespaces tag >>= λ name. Some ((name, object), closing.1)) x spelling.2 in
+    let text = bind_some (unescaped spelling.0.0) (λ text. kept_literal text >>= λ object. name_at namespaces tag >>= λ name. Some ((name, object), closing.0.1)) x closing.2 in
+    let object = bind_some (kept_literal text.0) (λ object. name_at namespaces tag >>= λ name. Some ((name, object), closing.0.1)) x text.2 in
+    let name = bind_some (name_at namespaces tag) (λ name. Some ((name, object.0), closing.0.1)) x object.2 in
     subst (λ (r : Read Property). length r.1 ≤ length bytes) (some_is ((name.0, object.0), closing.0.1) x name.2)
     (omega (arith, until_shrinks 60 bytes spelling.0 spelling.1, until_shrinks 10 spelling.0.1 closing.0 closing.1))
 
-link_at_keeps : (spaces : List (List ℕ)) (tag attribute bytes : List ℕ) (x : Read Property) → link_at spaces tag attribute bytes ≡ Some x → length x.1 ≤ length bytes
+link_at_keeps : (namespaces : List (List ℕ)) (tag attribute bytes : List ℕ) (x : Read Property) → link_at namespaces tag attribute bytes ≡ Some x → length x.1 ≤ length bytes
 unfolding link_at
-link_at_keeps spaces tag attribute bytes x e =
-    let opening = bind_some (until 34 attribute) (λ opening. until 34 opening.1 >>= λ target. strip (10 ∷ []) bytes >>= λ after. name_at spaces tag >>= λ name. target_at target.0 >>= λ object. Some ((name, object), after)) x e in
-    let target = bind_some (until 34 opening.0.1) (λ target. strip (10 ∷ []) bytes >>= λ after. name_at spaces tag >>= λ name. target_at target.0 >>= λ object. Some ((name, object), after)) x opening.2 in
-    let after = bind_some (strip (10 ∷ []) bytes) (λ after. name_at spaces tag >>= λ name. target_at target.0.0 >>= λ object. Some ((name, object), after)) x target.2 in
-    let name = bind_some (name_at spaces tag) (λ name. target_at target.0.0 >>= λ object. Some ((name, object), after.0)) x after.2 in
+link_at_keeps namespaces tag attribute bytes x e =
+    let opening = bind_some (until 34 attribute) (λ opening. until 34 opening.1 >>= λ target. strip (10 ∷ []) bytes >>= λ after. name_at namespaces tag >>= λ name. target_at target.0 >>= λ object. Some ((name, object), after)) x e in
+    let target = bind_some (until 34 opening.0.1) (λ target. strip (10 ∷ []) bytes >>= λ after. name_at namespaces tag >>= λ name. target_at target.0 >>= λ object. Some ((name, object), after)) x opening.2 in
+    let after = bind_some (strip (10 ∷ []) bytes) (λ after. name_at namespaces tag >>= λ name. target_at target.0.0 >>= λ object. Some ((name, object), after)) x target.2 in
+    let name = bind_some (name_at namespaces tag) (λ name. target_at target.0.0 >>= λ object. Some ((name, object), after.0)) x after.2 in
     let object = bind_some (target_at target.0.0) (λ object. Some ((name.0, object), after.0)) x name.2 in
     subst (λ (r : Read Property). length r.1 ≤ length bytes) (some_is ((name.0, object.0), after.0) x object.2) (strip_keeps (10 ∷ []) bytes after.0 after.1)
 
-pub property_at_shrinks : (spaces : List (List ℕ)) → Shrinks (property_at spaces)
+pub property_at_shrinks : (namespaces : List (List ℕ)) → Shrinks (property_at namespaces)
 unfolding property_at
-property_at_shrinks spaces bytes x e =
-    let behind = bind_some (strip (codes "<") bytes) (λ behind. until 62 behind >>= λ tag. by_attribute spaces tag.0 tag.1 (position (λ byte. byte == 32) tag.0)) x e in
-    let tag = bind_some (until 62 behind.0) (λ tag. by_attribute spaces tag.0 tag.1 (position (λ byte. byte == 32) tag.0)) x behind.2 in
+property_at_shrinks namespaces bytes x e =
+    let behind = bind_some (strip (codes "<") bytes) (λ behind. until 62 behind >>= λ tag. by_attribute namespaces tag.0 tag.1 (position (λ byte. byte == 32) tag.0)) x e in
+    let tag = bind_some (until 62 behind.0) (λ tag. by_attribute namespaces tag.0 tag.1 (position (λ byte. byte == 32) tag.0)) x behind.2 in
     let shorter = until_shrinks 62 behind.0 tag.0 tag.1 in
     let front = strip_keeps (codes "<") bytes behind.0 behind.1 in
     omega (arith, by tag.0 (position (λ byte. byte == 32) tag.0.0) tag.2)
   where
-    by : (tag : Read (List ℕ)) (place : Option ℕ) → by_attribute spaces tag.0 tag.1 place ≡ Some x → length x.1 ≤ length tag.1
-    by tag None is = value_at_keeps spaces tag.0 tag.1 x is
-    by tag (Some place) is = link_at_keeps spaces (take place tag.0) (drop place tag.0) tag.1 x is
+    by : (tag : Read (List ℕ)) (place : Option ℕ) → by_attribute namespaces tag.0 tag.1 place ≡ Some x → length x.1 ≤ length tag.1
+    by tag None is = value_at_keeps namespaces tag.0 tag.1 x is
+    by tag (Some place) is = link_at_keeps namespaces (take place tag.0) (drop place tag.0) tag.1 x is
 
 many_keeps : {X : Type 0} (comes : List ℕ → Bool) (one : List ℕ → Option (Read X)) → Shrinks one → (fuel : ℕ) (bytes : List ℕ) (x : Read (List X))
     → many_at comes one fuel bytes ≡ Some x → length x.1 ≤ length bytes
@@ -214,15 +214,15 @@ many_keeps {X} comes one shrinks (suc fuel) bytes x e = by (λ rest y is. many_k
         subst (λ (r : Read (List X)). length r.1 ≤ length bytes) (some_is (first.0.0 ∷ rest.0.0, rest.0.1) x rest.2)
         (omega (arith, shrinks bytes first.0 first.1, others first.0.1 rest.0 rest.1))
 
-pub element_at_shrinks : (spaces : List (List ℕ)) → Shrinks (element_at spaces)
+pub element_at_shrinks : (namespaces : List (List ℕ)) → Shrinks (element_at namespaces)
 unfolding element_at properties_at
-element_at_shrinks spaces bytes x e =
-    let behind = bind_some (strip (codes "<") bytes) (λ behind. until 32 behind >>= λ tag. until 10 tag.1 >>= λ identity. identity_at identity.0 >>= λ subject. type_at spaces subject tag.0 >>= λ type. properties_at spaces identity.1 >>= λ properties. until 10 properties.1 >>= λ closing. Some (type ++ map (stated subject) properties.0, closing.1)) x e in
-    let tag = bind_some (until 32 behind.0) (λ tag. until 10 tag.1 >>= λ identity. identity_at identity.0 >>= λ subject. type_at spaces subject tag.0 >>= λ type. properties_at spaces identity.1 >>= λ properties. until 10 properties.1 >>= λ closing. Some (type ++ map (stated subject) properties.0, closing.1)) x behind.2 in
-    let identity = bind_some (until 10 tag.0.1) (λ identity. identity_at identity.0 >>= λ subject. type_at spaces subject tag.0.0 >>= λ type. properties_at spaces identity.1 >>= λ properties. until 10 properties.1 >>= λ closing. Some (type ++ map (stated subject) properties.0, closing.1)) x tag.2 in
-    let subject = bind_some (identity_at identity.0.0) (λ subject. type_at spaces subject tag.0.0 >>= λ type. properties_at spaces identity.0.1 >>= λ properties. until 10 properties.1 >>= λ closing. Some (type ++ map (stated subject) properties.0, closing.1)) x identity.2 in
-    let type = bind_some (type_at spaces subject.0 tag.0.0) (λ type. properties_at spaces identity.0.1 >>= λ properties. until 10 properties.1 >>= λ closing. Some (type ++ map (stated subject.0) properties.0, closing.1)) x subject.2 in
-    let properties = bind_some (properties_at spaces identity.0.1) (λ properties. until 10 properties.1 >>= λ closing. Some (type.0 ++ map (stated subject.0) properties.0, closing.1)) x type.2 in
+element_at_shrinks namespaces bytes x e =
+    let behind = bind_some (strip (codes "<") bytes) (λ behind. until 32 behind >>= λ tag. until 10 tag.1 >>= λ identity. identity_at identity.0 >>= λ subject. type_at namespaces subject tag.0 >>= λ type. properties_at namespaces identity.1 >>= λ properties. until 10 properties.1 >>= λ closing. Some (type ++ map (stated subject) properties.0, closing.1)) x e in
+    let tag = bind_some (until 32 behind.0) (λ tag. until 10 tag.1 >>= λ identity. identity_at identity.0 >>= λ subject. type_at namespaces subject tag.0 >>= λ type. properties_at namespaces identity.1 >>= λ properties. until 10 properties.1 >>= λ closing. Some (type ++ map (stated subject) properties.0, closing.1)) x behind.2 in
+    let identity = bind_some (until 10 tag.0.1) (λ identity. identity_at identity.0 >>= λ subject. type_at namespaces subject tag.0.0 >>= λ type. properties_at namespaces identity.1 >>= λ properties. until 10 properties.1 >>= λ closing. Some (type ++ map (stated subject) properties.0, closing.1)) x tag.2 in
+    let subject = bind_some (identity_at identity.0.0) (λ subject. type_at namespaces subject tag.0.0 >>= λ type. properties_at namespaces identity.0.1 >>= λ properties. until 10 properties.1 >>= λ closing. Some (type ++ map (stated subject) properties.0, closing.1)) x identity.2 in
+    let type = bind_some (type_at namespaces subject.0 tag.0.0) (λ type. properties_at namespaces identity.0.1 >>= λ properties. until 10 properties.1 >>= λ closing. Some (type ++ map (stated subject.0) properties.0, closing.1)) x subject.2 in
+    let properties = bind_some (properties_at namespaces identity.0.1) (λ properties. until 10 properties.1 >>= λ closing. Some (type.0 ++ map (stated subject.0) properties.0, closing.1)) x type.2 in
     let closing = bind_some (until 10 properties.0.1) (λ closing. Some (type.0 ++ map (stated subject.0) properties.0.0, closing.1)) x properties.2 in
     subst (λ (r : Read (List Statement)). length r.1 < length bytes) (some_is (type.0 ++ map (stated subject.0) properties.0.0, closing.0.1) x closing.2)
     (omega (
@@ -230,6 +230,6 @@ element_at_shrinks spaces bytes x e =
       strip_keeps (codes "<") bytes behind.0 behind.1,
       until_shrinks 32 behind.0 tag.0 tag.1,
       until_shrinks 10 tag.0.1 identity.0 identity.1,
-      many_keeps is_open (property_at spaces) (property_at_shrinks spaces) (suc (length identity.0.1)) identity.0.1 properties.0 properties.1,
+      many_keeps is_open (property_at namespaces) (property_at_shrinks namespaces) (suc (length identity.0.1)) identity.0.1 properties.0 properties.1,
       until_shrinks 10 properties.0.1 closing.0 closing.1,
     ))

@@ -6,8 +6,9 @@ use Rattle.std.specs.List.{AllByRecursion, flat_map, list_all, list_any, positio
 use Rattle.std.specs.Ordering.{is_eq}
 use Rattle.std.proofs.lemmas.List.Folds.{list_any-append}
 use Rattle.nm_ident.proofs.Orders.{ident_cmp-equal}
-use Rattle.nm_ident.specs.Ident.{is_kept_ident}
-use Rattle.nm_ident.specs.Name.{same_text, is_predicate, type_name}
+use Rattle.nm_ident.specs.Ident.{is_sound_ident}
+use Rattle.nm_terms.specs.Bytes.{same_text}
+use Rattle.nm_ident.specs.Name.{is_predicate, type_name}
 use Rattle.nm_ident.specs.Order.{ident_cmp, name_cmp}
 use Rattle.nm_ident.specs.QualifiedName.{QualifiedName}
 use Rattle.nm_ident.specs.declared.ident.Ident.{Ident}
@@ -16,8 +17,8 @@ use Rattle.nm_statement.specs.Sound.{is_sound_object, is_sound_statement, is_sou
 use Rattle.nm_statement.specs.declared.object.Object.{Object}
 use Rattle.nm_statement.specs.declared.object.Object.TheVariants.{Literal, Resource, Iri}
 use Rattle.nm_statement.specs.declared.statement.Statement.{Statement}
-use Rattle.nm_writer.specs.Canonical.{class_of, class_of_iri, class_of_object, class_spaces, element_of, element_space, is_about, or_else, own, space_of, spaces_in, spaces_of, split_iri, subjects_of}
-use Rattle.nm_writer.specs.Spaces.{is_rdf, rising_texts}
+use Rattle.nm_writer.specs.Canonical.{class_of, class_of_iri, class_of_object, class_namespaces, element_of, element_namespace, is_about, or_else, own, namespace_of, namespaces_in, namespaces_of, split_iri, subjects_of}
+use Rattle.nm_writer.specs.Namespaces.{is_rdf, rising_texts}
 use Rattle.nm_writer.proofs.NamesAgain.{IsDeclared, spelt_name}
 use Rattle.nm_writer.proofs.Namespaces.{has, has-rising_texts}
 use Rattle.nm_writer.proofs.Spelt.{AreSpelt, IsSpelt}
@@ -74,16 +75,16 @@ declared_of all ns held other =
     let kept : holds (filter (λ x. not (is_rdf x)) all) ns ≡ true = kept_any (same_text ns) (λ x. not (is_rdf x)) stays all held in
     found_place (same_text ns) (rising_texts (filter (λ x. not (is_rdf x)) all)) (holds-rising_texts (filter (λ x. not (is_rdf x)) all) ns ∙ kept)
 
-any_flat : {X : Type 0} (test : X → Bool) (spaces : X → List (List ℕ)) (ns : List ℕ) → ((x : X) → test x ≡ true → holds (spaces x) ns ≡ true)
-    → (xs : List X) → list_any test xs ≡ true → holds (flat_map spaces xs) ns ≡ true
-any_flat test spaces ns each [] any = any
-any_flat test spaces ns each (x ∷ xs) any =
-    list_any-append (same_text ns) (spaces x) (flat_map spaces xs) ∙ by (test x) refl any (any_flat test spaces ns each xs)
+any_flat : {X : Type 0} (test : X → Bool) (namespaces : X → List (List ℕ)) (ns : List ℕ) → ((x : X) → test x ≡ true → holds (namespaces x) ns ≡ true)
+    → (xs : List X) → list_any test xs ≡ true → holds (flat_map namespaces xs) ns ≡ true
+any_flat test namespaces ns each [] any = any
+any_flat test namespaces ns each (x ∷ xs) any =
+    list_any-append (same_text ns) (namespaces x) (flat_map namespaces xs) ∙ by (test x) refl any (any_flat test namespaces ns each xs)
   where
-    by : (here : Bool) → test x ≡ here → (here || list_any test xs) ≡ true → (list_any test xs ≡ true → holds (flat_map spaces xs) ns ≡ true)
-        → (holds (spaces x) ns || holds (flat_map spaces xs) ns) ≡ true
-    by true passes any others = or_left (holds (spaces x) ns) (holds (flat_map spaces xs) ns) (each x passes)
-    by false fails any others = or_right (holds (spaces x) ns) (holds (flat_map spaces xs) ns) (others any)
+    by : (here : Bool) → test x ≡ here → (here || list_any test xs) ≡ true → (list_any test xs ≡ true → holds (flat_map namespaces xs) ns ≡ true)
+        → (holds (namespaces x) ns || holds (flat_map namespaces xs) ns) ≡ true
+    by true passes any others = or_left (holds (namespaces x) ns) (holds (flat_map namespaces xs) ns) (each x passes)
+    by false fails any others = or_right (holds (namespaces x) ns) (holds (flat_map namespaces xs) ns) (others any)
 
 -- ---- classes that name elements
 
@@ -159,29 +160,29 @@ among_subjects subject (statement ∷ statements) any = by (is_eq (ident_cmp sub
         (λ x same. still_kept subject statement.subject x is same) (subjects_of statements) (others any)
 
 -- the namespace of what names an element is one of the classes'
-class_space : (statements : List Statement) (subject : Ident) (name : QualifiedName) → element_of (own statements subject) ≡ Some name → holds (class_spaces statements) name.ns ≡ true
-class_space statements subject name is =
-    let here : holds (element_space statements subject) name.ns ≡ true = ap (λ (class : Option QualifiedName). holds (space_of class) name.ns) is ∙ or_left (same_text name.ns name.ns) false ((bytes_decides name.ns name.ns).1 refl) in
-    any_flat (λ (x : Ident). is_eq (ident_cmp subject x)) (element_space statements) name.ns
-    (λ x same. subst (λ (y : Ident). holds (element_space statements y) name.ns ≡ true) (same_ident subject x same) here)
+class_namespace : (statements : List Statement) (subject : Ident) (name : QualifiedName) → element_of (own statements subject) ≡ Some name → holds (class_namespaces statements) name.ns ≡ true
+class_namespace statements subject name is =
+    let here : holds (element_namespace statements subject) name.ns ≡ true = ap (λ (class : Option QualifiedName). holds (namespace_of class) name.ns) is ∙ or_left (same_text name.ns name.ns) false ((bytes_decides name.ns name.ns).1 refl) in
+    any_flat (λ (x : Ident). is_eq (ident_cmp subject x)) (element_namespace statements) name.ns
+    (λ x same. subst (λ (y : Ident). holds (element_namespace statements y) name.ns ≡ true) (same_ident subject x same) here)
     (subjects_of statements) (among_subjects subject statements (element_is_stated (is_about subject) statements name is))
 
 -- ---- sections
 
 -- the namespaces of the section have prefixes
 abbrev DeclaresAll : List (List ℕ) → List (List ℕ) → Type 0
-DeclaresAll spaces used = (ns : List ℕ) → holds used ns ≡ true → IsDeclared spaces ns
+DeclaresAll namespaces used = (ns : List ℕ) → holds used ns ≡ true → IsDeclared namespaces ns
 
-front_declared : (spaces one two : List (List ℕ)) → DeclaresAll spaces (one ++ two) → DeclaresAll spaces one
-front_declared spaces one two declares ns held = declares ns (list_any-append (same_text ns) one two ∙ or_left (holds one ns) (holds two ns) held)
+front_declared : (namespaces one two : List (List ℕ)) → DeclaresAll namespaces (one ++ two) → DeclaresAll namespaces one
+front_declared namespaces one two declares ns held = declares ns (list_any-append (same_text ns) one two ∙ or_left (holds one ns) (holds two ns) held)
 
-back_declared : (spaces one two : List (List ℕ)) → DeclaresAll spaces (one ++ two) → DeclaresAll spaces two
-back_declared spaces one two declares ns held = declares ns (list_any-append (same_text ns) one two ∙ or_right (holds one ns) (holds two ns) held)
+back_declared : (namespaces one two : List (List ℕ)) → DeclaresAll namespaces (one ++ two) → DeclaresAll namespaces two
+back_declared namespaces one two declares ns held = declares ns (list_any-append (same_text ns) one two ∙ or_right (holds one ns) (holds two ns) held)
 
 sound_first : (statement : Statement) (statements : List Statement) → list_all is_sound_statement (statement ∷ statements) ≡ true
     → (is_predicate statement.predicate ≡ true) × (list_all is_sound_statement statements ≡ true)
 sound_first statement statements sound =
-    parts (is_kept_ident statement.subject) (is_predicate statement.predicate) (is_sound_object statement.object) (list_all is_sound_statement statements) sound
+    parts (is_sound_ident statement.subject) (is_predicate statement.predicate) (is_sound_object statement.object) (list_all is_sound_statement statements) sound
   where
     parts : (subject predicate object others : Bool) → ((subject && predicate && object) && others) ≡ true → (predicate ≡ true) × (others ≡ true)
     parts true true true others e = (refl, e)
@@ -189,51 +190,51 @@ sound_first statement statements sound =
     parts true false object others e = absurd cc
     parts false predicate object others e = absurd cc
 
-predicates_spelt : (spaces : List (List ℕ)) → length spaces < 2 ^ 64 - 1 → (statements : List Statement) → list_all is_sound_statement statements ≡ true
-    → DeclaresAll spaces (map (λ statement. statement.predicate.ns) statements) → AllByRecursion (λ statement. IsSpelt spaces statement.predicate) statements
-predicates_spelt spaces small [] sound declares = tt
-predicates_spelt spaces small (statement ∷ statements) sound declares =
+predicates_spelt : (namespaces : List (List ℕ)) → length namespaces < 2 ^ 64 - 1 → (statements : List Statement) → list_all is_sound_statement statements ≡ true
+    → DeclaresAll namespaces (map (λ statement. statement.predicate.ns) statements) → AllByRecursion (λ statement. IsSpelt namespaces statement.predicate) statements
+predicates_spelt namespaces small [] sound declares = tt
+predicates_spelt namespaces small (statement ∷ statements) sound declares =
     let parts = sound_first statement statements sound in
     let ns = statement.predicate.ns in
     let others = map (λ (other : Statement). other.predicate.ns) statements in (
-      spelt_name spaces statement.predicate parts.0 small (declares ns (or_left (same_text ns ns) (holds others ns) ((bytes_decides ns ns).1 refl))),
-      predicates_spelt spaces small statements parts.1 (back_declared spaces (ns ∷ []) others declares),
+      spelt_name namespaces statement.predicate parts.0 small (declares ns (or_left (same_text ns ns) (holds others ns) ((bytes_decides ns ns).1 refl))),
+      predicates_spelt namespaces small statements parts.1 (back_declared namespaces (ns ∷ []) others declares),
     )
 
-section_spelt : (spaces : List (List ℕ)) → length spaces < 2 ^ 64 - 1 → (statements : List Statement) → is_sound_set statements ≡ true
-    → DeclaresAll spaces (spaces_in statements) → AreSpelt spaces statements
-section_spelt spaces small statements sound declares =
+section_spelt : (namespaces : List (List ℕ)) → length namespaces < 2 ^ 64 - 1 → (statements : List Statement) → is_sound_set statements ≡ true
+    → DeclaresAll namespaces (namespaces_in statements) → AreSpelt namespaces statements
+section_spelt namespaces small statements sound declares =
     let stated = map (λ (statement : Statement). statement.predicate.ns) statements in
     let each : list_all is_sound_statement statements ≡ true = last (is_rising statements) (list_all is_sound_statement statements) sound in
     record {
-      predicates = predicates_spelt spaces small statements each (front_declared spaces stated (class_spaces statements) declares);
-      classes = λ subject name is. spelt_name spaces name (element_of-kept (own statements subject) name is) small
-          (back_declared spaces stated (class_spaces statements) declares name.ns (class_space statements subject name is));
+      predicates = predicates_spelt namespaces small statements each (front_declared namespaces stated (class_namespaces statements) declares);
+      classes = λ subject name is. spelt_name namespaces name (element_of-kept (own statements subject) name is) small
+          (back_declared namespaces stated (class_namespaces statements) declares name.ns (class_namespace statements subject name is));
     }
   where
     last : (a b : Bool) → (a && b) ≡ true → b ≡ true
     last true b e = e
     last false b e = absurd cc
 
-sections_spelt : (spaces : List (List ℕ)) → length spaces < 2 ^ 64 - 1 → (sections : List (List Statement)) → AllByRecursion (λ statements. is_sound_set statements ≡ true) sections
-    → DeclaresAll spaces (flat_map spaces_in sections) → AllByRecursion (AreSpelt spaces) sections
-sections_spelt spaces small [] sound declares = tt
-sections_spelt spaces small (statements ∷ sections) sound declares = (
-  section_spelt spaces small statements sound.0 (front_declared spaces (spaces_in statements) (flat_map spaces_in sections) declares),
-  sections_spelt spaces small sections sound.1 (back_declared spaces (spaces_in statements) (flat_map spaces_in sections) declares),
+sections_spelt : (namespaces : List (List ℕ)) → length namespaces < 2 ^ 64 - 1 → (sections : List (List Statement)) → AllByRecursion (λ statements. is_sound_set statements ≡ true) sections
+    → DeclaresAll namespaces (flat_map namespaces_in sections) → AllByRecursion (AreSpelt namespaces) sections
+sections_spelt namespaces small [] sound declares = tt
+sections_spelt namespaces small (statements ∷ sections) sound declares = (
+  section_spelt namespaces small statements sound.0 (front_declared namespaces (namespaces_in statements) (flat_map namespaces_in sections) declares),
+  sections_spelt namespaces small sections sound.1 (back_declared namespaces (namespaces_in statements) (flat_map namespaces_in sections) declares),
 )
 
 -- the sections of a document are spelt with the namespaces that it declares
-pub spelt_of : (sections : List (List Statement)) → AllByRecursion (λ statements. is_sound_set statements ≡ true) sections → length (spaces_of sections) < 2 ^ 64 - 1
-    → AllByRecursion (AreSpelt (spaces_of sections)) sections
-spelt_of sections sound small = sections_spelt (spaces_of sections) small sections sound (declared_of (flat_map spaces_in sections))
+pub spelt_of : (sections : List (List Statement)) → AllByRecursion (λ statements. is_sound_set statements ≡ true) sections → length (namespaces_of sections) < 2 ^ 64 - 1
+    → AllByRecursion (AreSpelt (namespaces_of sections)) sections
+spelt_of sections sound small = sections_spelt (namespaces_of sections) small sections sound (declared_of (flat_map namespaces_in sections))
 
-pub spelt_of_one : (statements : List Statement) → is_sound_set statements ≡ true → length (spaces_of (statements ∷ [])) < 2 ^ 64 - 1
-    → AreSpelt (spaces_of (statements ∷ [])) statements
+pub spelt_of_one : (statements : List Statement) → is_sound_set statements ≡ true → length (namespaces_of (statements ∷ [])) < 2 ^ 64 - 1
+    → AreSpelt (namespaces_of (statements ∷ [])) statements
 spelt_of_one statements sound small = (spelt_of (statements ∷ []) (sound, tt) small).0
 
 pub spelt_of_three : (one two three : List Statement) → is_sound_set one ≡ true → is_sound_set two ≡ true → is_sound_set three ≡ true
-    → length (spaces_of (one ∷ two ∷ three ∷ [])) < 2 ^ 64 - 1
-    → AreSpelt (spaces_of (one ∷ two ∷ three ∷ [])) one × AreSpelt (spaces_of (one ∷ two ∷ three ∷ [])) two × AreSpelt (spaces_of (one ∷ two ∷ three ∷ [])) three
+    → length (namespaces_of (one ∷ two ∷ three ∷ [])) < 2 ^ 64 - 1
+    → AreSpelt (namespaces_of (one ∷ two ∷ three ∷ [])) one × AreSpelt (namespaces_of (one ∷ two ∷ three ∷ [])) two × AreSpelt (namespaces_of (one ∷ two ∷ three ∷ [])) three
 spelt_of_three one two three sound_one sound_two sound_three small =
     let all = spelt_of (one ∷ two ∷ three ∷ []) (sound_one, (sound_two, (sound_three, tt))) small in (all.0, all.1.0, all.1.1.0)

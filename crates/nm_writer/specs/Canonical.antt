@@ -17,8 +17,8 @@ use Rattle.nm_model.specs.declared.document.Full.{Full}
 use Rattle.nm_model.specs.declared.document.Difference.{Difference}
 use Rattle.nm_model.specs.declared.document.Document.{Document}
 use Rattle.nm_model.specs.declared.document.Document.TheVariants as document
-use Rattle.nm_writer.specs.Escape.{text_spelling, attribute_spelling}
-use Rattle.nm_writer.specs.Spaces.{rising_texts, is_rdf, cim_place, prefix_at, prefix_of}
+use Rattle.nm_text.specs.Escape.{text_spelling, attribute_spelling}
+use Rattle.nm_writer.specs.Namespaces.{rising_texts, is_rdf, cim_place, prefix_at, prefix_of}
 
 -- ---- the objects of a set, grouped by subject
 
@@ -90,24 +90,24 @@ pub record IsNamedBy (statements : List Statement) (place : ℕ) (name : Qualifi
 
 -- ---- namespaces
 
-abbrev pub space_of : Option QualifiedName → List (List ℕ)
-space_of None = []
-space_of (Some name) = name.ns ∷ []
+abbrev pub namespace_of : Option QualifiedName → List (List ℕ)
+namespace_of None = []
+namespace_of (Some name) = name.ns ∷ []
 
-abbrev pub element_space : List Statement → Ident → List (List ℕ)
-element_space statements subject = space_of (element_of (own statements subject))
+abbrev pub element_namespace : List Statement → Ident → List (List ℕ)
+element_namespace statements subject = namespace_of (element_of (own statements subject))
 
 -- the namespaces of the classes that name elements
-abbrev pub class_spaces : List Statement → List (List ℕ)
-class_spaces statements = flat_map (element_space statements) (subjects_of statements)
+abbrev pub class_namespaces : List Statement → List (List ℕ)
+class_namespaces statements = flat_map (element_namespace statements) (subjects_of statements)
 
 -- the namespaces of the predicates, and of the classes that name elements
-abbrev pub spaces_in : List Statement → List (List ℕ)
-spaces_in statements = map (λ statement. statement.predicate.ns) statements ++ class_spaces statements
+abbrev pub namespaces_in : List Statement → List (List ℕ)
+namespaces_in statements = map (λ statement. statement.predicate.ns) statements ++ class_namespaces statements
 
 -- those of all sections that a document declares, in the order of their bytes
-abbrev pub spaces_of : List (List Statement) → List (List ℕ)
-spaces_of sections = rising_texts (filter (λ ns. not (is_rdf ns)) (flat_map spaces_in sections))
+abbrev pub namespaces_of : List (List Statement) → List (List ℕ)
+namespaces_of sections = rising_texts (filter (λ ns. not (is_rdf ns)) (flat_map namespaces_in sections))
 
 -- ---- lines
 
@@ -115,7 +115,7 @@ abbrev pub line_feed : List ℕ
 line_feed = 10 ∷ []
 
 abbrev pub tag_of : List (List ℕ) → QualifiedName → List ℕ
-tag_of spaces name = prefix_of spaces name.ns ++ codes ":" ++ name.local
+tag_of namespaces name = prefix_of namespaces name.ns ++ codes ":" ++ name.local
 
 abbrev pub value_line : List ℕ → List ℕ → List ℕ
 value_line tag text = codes "<" ++ tag ++ codes ">" ++ text_spelling text ++ codes "</" ++ tag ++ codes ">" ++ line_feed
@@ -130,11 +130,11 @@ object_line tag (Iri iri) = link_line tag (attribute_spelling iri)
 
 -- one property of a subject
 abbrev pub property_line : List (List ℕ) → Statement → List ℕ
-property_line spaces statement = object_line (tag_of spaces statement.predicate) statement.object
+property_line namespaces statement = object_line (tag_of namespaces statement.predicate) statement.object
 
 abbrev pub element_tag : List (List ℕ) → Option QualifiedName → List ℕ
-element_tag spaces None = codes "rdf:Description"
-element_tag spaces (Some name) = tag_of spaces name
+element_tag namespaces None = codes "rdf:Description"
+element_tag namespaces (Some name) = tag_of namespaces name
 
 -- a full model says `rdf:ID` of what it gives a class, all else is `rdf:about`
 abbrev pub identity : Bool → Ident → List ℕ
@@ -149,16 +149,16 @@ closing tag = codes "</" ++ tag ++ codes ">" ++ line_feed
 
 -- the object of a subject, of which these are the statements
 abbrev pub element : Bool → List (List ℕ) → Ident → List Statement → List ℕ
-element is_full spaces subject statements =
-    let name = element_of statements in let tag = element_tag spaces name in
+element is_full namespaces subject statements =
+    let name = element_of statements in let tag = element_tag namespaces name in
     element_start tag (is_full && is_some name) subject
-    ++ flat_map (property_line spaces) (properties_of statements)
+    ++ flat_map (property_line namespaces) (properties_of statements)
     ++ closing tag
 
 -- the objects of a model or of a section, in order
 abbrev pub elements : Bool → List (List ℕ) → List Statement → List ℕ
-elements is_full spaces statements =
-    flat_map (λ subject. element is_full spaces subject (own statements subject)) (subjects_of statements)
+elements is_full namespaces statements =
+    flat_map (λ subject. element is_full namespaces subject (own statements subject)) (subjects_of statements)
 
 -- ---- the header
 
@@ -190,8 +190,8 @@ declaration prefix ns = codes " xmlns:" ++ prefix ++ codes "=\"" ++ attribute_sp
 
 -- the declarations of the namespaces in use
 abbrev pub declarations : List (List ℕ) → List ℕ
-declarations spaces =
-    flat_map (λ entry. declaration (prefix_at (cim_place spaces) entry.0) entry.1) (enumerate_from 0 spaces)
+declarations namespaces =
+    flat_map (λ entry. declaration (prefix_at (cim_place namespaces) entry.0) entry.1) (enumerate_from 0 namespaces)
 
 abbrev pub xml_line : List ℕ
 xml_line = codes "<?xml version=\"1.0\" encoding=\"UTF-8\"?>" ++ line_feed
@@ -200,35 +200,35 @@ abbrev pub root_start : List ℕ
 root_start = codes "<rdf:RDF" ++ declaration (codes "rdf") rdf_namespace ++ declaration (codes "md") md_namespace
 
 abbrev pub front : List ℕ → List (List ℕ) → List ℕ
-front declared spaces = xml_line ++ root_start ++ declared ++ declarations spaces ++ codes ">" ++ line_feed
+front declared namespaces = xml_line ++ root_start ++ declared ++ declarations namespaces ++ codes ">" ++ line_feed
 
 abbrev pub canonical_full : Full → List ℕ
 canonical_full full =
-    let spaces = spaces_of (full.statements ∷ []) in
-    front [] spaces
+    let namespaces = namespaces_of (full.statements ∷ []) in
+    front [] namespaces
     ++ header_start (codes "md:FullModel") full.header.id ++ header_lines full.header ++ closing (codes "md:FullModel")
-    ++ elements true spaces full.statements
+    ++ elements true namespaces full.statements
     ++ closing (codes "rdf:RDF")
 
 abbrev pub section : List ℕ → List (List ℕ) → List Statement → List ℕ
-section tag spaces statements =
+section tag namespaces statements =
     codes "<" ++ tag ++ codes " rdf:parseType=\"Statements\">" ++ line_feed
-    ++ elements false spaces statements ++ closing tag
+    ++ elements false namespaces statements ++ closing tag
 
 -- all three, also those that state nothing
 abbrev pub sections : List (List ℕ) → Change → List ℕ
-sections spaces change =
-    section (codes "dm:preconditions") spaces change.pre
-    ++ section (codes "dm:forwardDifferences") spaces change.fwd
-    ++ section (codes "dm:reverseDifferences") spaces change.rev
+sections namespaces change =
+    section (codes "dm:preconditions") namespaces change.pre
+    ++ section (codes "dm:forwardDifferences") namespaces change.fwd
+    ++ section (codes "dm:reverseDifferences") namespaces change.rev
 
 abbrev pub canonical_difference : Difference → List ℕ
 canonical_difference difference =
     let change = difference.change in
-    let spaces = spaces_of (change.pre ∷ change.fwd ∷ change.rev ∷ []) in
-    front (declaration (codes "dm") dm_namespace) spaces
+    let namespaces = namespaces_of (change.pre ∷ change.fwd ∷ change.rev ∷ []) in
+    front (declaration (codes "dm") dm_namespace) namespaces
     ++ header_start (codes "dm:DifferenceModel") difference.header.id ++ header_lines difference.header
-    ++ sections spaces change
+    ++ sections namespaces change
     ++ closing (codes "dm:DifferenceModel")
     ++ closing (codes "rdf:RDF")
 

@@ -1,5 +1,4 @@
-pub mod Escape
-pub mod Spaces
+pub mod Namespaces
 pub mod Canonical
 pub mod Gives
 pub mod Reading

@@ -1,6 +1,7 @@
 -- Headers with no property but profiles, dependencies and superseded models, and what the document of such a model is.
 use Rattle.std.specs.Prelude.{◌≡◌, ◌≤◌, ℕ, List, length, Bool, true, ◌&&◌, is_none, Result, Ok, Err}
-use Rattle.nm_model.specs.Sound.{is_kept}
+use Rattle.nm_model.specs.Limits.{longest_document}
+use Rattle.nm_model.specs.Sound.{is_sound_within_limits}
 use Rattle.nm_model.specs.declared.header.Header.{Header}
 use Rattle.nm_model.specs.declared.document.Document.{Document}
 use Rattle.nm_model.specs.declared.document.Document.TheVariants as document
@@ -18,11 +19,11 @@ abbrev pub is_plain : Document → Bool
 is_plain (document.Full full) = is_plain_header full.header
 is_plain (document.Difference difference) = is_plain_header difference.header
 
--- the bytes are the canonical document of the model: one that is kept, and that can be read back
+-- the bytes are the canonical document of the model: one that is sound and within the limits, and that can be read back
 pub record IsCanonicalOf (model : Document) (bytes : List ℕ) : Type 0 where
-  pub kept : is_kept model ≡ true
+  pub kept : is_sound_within_limits model ≡ true
   pub plain : is_plain model ≡ true
-  pub short : length bytes ≤ 67108864
+  pub short : length bytes ≤ longest_document
   pub spelt : canonical_of model ≡ bytes
 
 -- the answer is the model, unless memory ran out

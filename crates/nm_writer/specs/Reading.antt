@@ -8,11 +8,12 @@ use Rattle.std.specs.Option.{option_map}
 use Rattle.std.specs.Char.{is_ascii_digit}
 use Rattle.std.specs.Str.Parse.{digits_value}
 use Rattle.nm_ident.specs.QualifiedName.{QualifiedName}
-use Rattle.nm_ident.specs.Name.{same_text, rdf_namespace, type_name, is_predicate}
+use Rattle.nm_terms.specs.Bytes.{same_text}
+use Rattle.nm_ident.specs.Name.{rdf_namespace, type_name, is_predicate}
 use Rattle.nm_ident.specs.Ident.{ident_of_id}
 use Rattle.nm_ident.specs.UuidText.{uuid_of}
 use Rattle.nm_ident.specs.declared.ident.Ident.{Ident}
-use Rattle.nm_statement.specs.Characters.{is_literal}
+use Rattle.nm_statement.specs.Literal.{is_literal}
 use Rattle.nm_statement.specs.Set.{set_of}
 use Rattle.nm_statement.specs.declared.object.Object.{Object}
 use Rattle.nm_statement.specs.declared.object.Object.TheVariants.{Literal, Resource, Iri}
@@ -23,8 +24,9 @@ use Rattle.nm_model.specs.declared.document.Full.{Full}
 use Rattle.nm_model.specs.declared.document.Difference.{Difference}
 use Rattle.nm_model.specs.declared.document.Document.{Document}
 use Rattle.nm_model.specs.declared.document.Document.TheVariants as document
-use Rattle.nm_model.specs.Sound.{is_kept}
-use Rattle.nm_writer.specs.Spaces.{cim_place}
+use Rattle.nm_model.specs.Limits.{longest_document}
+use Rattle.nm_model.specs.Sound.{is_sound_within_limits}
+use Rattle.nm_writer.specs.Namespaces.{cim_place}
 use Rattle.nm_writer.specs.Canonical.{xml_line, root_start, declaration, canonical_of}
 use Rattle.nm_ident.specs.Name.{dm_namespace}
 
@@ -126,12 +128,12 @@ unfoldable pub place_at : Option ℕ → List ℕ → Option ℕ
 place_at cim prefix = if same_text prefix (codes "cim") then cim else numbered_place cim prefix
 
 -- the namespace of a prefix
-unfoldable pub space_at : List (List ℕ) → List ℕ → Option (List ℕ)
-space_at spaces prefix =
+unfoldable pub namespace_at : List (List ℕ) → List ℕ → Option (List ℕ)
+namespace_at namespaces prefix =
     if same_text prefix (codes "rdf") then Some rdf_namespace
     else (do
-      place ← place_at (cim_place spaces) prefix
-      slice_get spaces place)
+      place ← place_at (cim_place namespaces) prefix
+      slice_get namespaces place)
 
 -- a name that a property or a class may have
 abbrev pub kept_name : QualifiedName → Option QualifiedName
@@ -139,9 +141,9 @@ kept_name name = if is_predicate name then Some name else None
 
 -- the name that a tag spells
 unfoldable pub name_at : List (List ℕ) → List ℕ → Option QualifiedName
-name_at spaces tag = do
+name_at namespaces tag = do
   prefix ← until 58 tag
-  ns ← space_at spaces prefix.0
+  ns ← namespace_at namespaces prefix.0
   kept_name (record { ns = ns; local = prefix.1 })
 
 -- the namespace of one declaration
@@ -156,8 +158,8 @@ abbrev pub has_declaration : List ℕ → Bool
 has_declaration bytes = not (starts_with nat_eq bytes (codes ">"))
 
 -- the declared namespaces
-unfoldable pub spaces_at : List ℕ → Option (Read (List (List ℕ)))
-spaces_at bytes = many_at has_declaration declaration_at (suc (length bytes)) bytes
+unfoldable pub namespaces_at : List ℕ → Option (Read (List (List ℕ)))
+namespaces_at bytes = many_at has_declaration declaration_at (suc (length bytes)) bytes
 
 -- ---- objects
 
@@ -179,38 +181,38 @@ Property = QualifiedName × Object
 
 -- a property that holds a text
 unfoldable pub value_at : List (List ℕ) → List ℕ → List ℕ → Option (Read Property)
-value_at spaces tag bytes = do
+value_at namespaces tag bytes = do
   spelling ← until 60 bytes
   closing ← until 10 spelling.1
   text ← unescaped spelling.0
   object ← kept_literal text
-  name ← name_at spaces tag
+  name ← name_at namespaces tag
   Some ((name, object), closing.1)
 
 -- a property that points to a resource or an IRI
 unfoldable pub link_at : List (List ℕ) → List ℕ → List ℕ → List ℕ → Option (Read Property)
-link_at spaces tag attribute bytes = do
+link_at namespaces tag attribute bytes = do
   opening ← until 34 attribute
   target ← until 34 opening.1
   after ← strip (10 ∷ []) bytes
-  name ← name_at spaces tag
+  name ← name_at namespaces tag
   object ← target_at target.0
   Some ((name, object), after)
 
 abbrev pub by_attribute : List (List ℕ) → List ℕ → List ℕ → Option ℕ → Option (Read Property)
-by_attribute spaces tag bytes None = value_at spaces tag bytes
-by_attribute spaces tag bytes (Some place) = link_at spaces (take place tag) (drop place tag) bytes
+by_attribute namespaces tag bytes None = value_at namespaces tag bytes
+by_attribute namespaces tag bytes (Some place) = link_at namespaces (take place tag) (drop place tag) bytes
 
 -- one property
 unfoldable pub property_at : List (List ℕ) → List ℕ → Option (Read Property)
-property_at spaces bytes = do
+property_at namespaces bytes = do
   behind ← strip (codes "<") bytes
   tag ← until 62 behind
-  by_attribute spaces tag.0 tag.1 (position (λ byte. byte == 32) tag.0)
+  by_attribute namespaces tag.0 tag.1 (position (λ byte. byte == 32) tag.0)
 
 -- what the properties of a subject state
 unfoldable pub properties_at : List (List ℕ) → List ℕ → Option (Read (List Property))
-properties_at spaces bytes = many_at is_open (property_at spaces) (suc (length bytes)) bytes
+properties_at namespaces bytes = many_at is_open (property_at namespaces) (suc (length bytes)) bytes
 
 abbrev pub stated : Ident → Property → Statement
 stated subject property = record { subject = subject; predicate = property.0; object = property.1 }
@@ -220,9 +222,9 @@ abbrev pub type_of_class : Ident → QualifiedName → List Statement
 type_of_class subject class = stated subject (type_name, Iri (class.ns ++ class.local)) ∷ []
 
 unfoldable pub type_at : List (List ℕ) → Ident → List ℕ → Option (List Statement)
-type_at spaces subject tag =
+type_at namespaces subject tag =
     if same_text tag (codes "rdf:Description") then Some []
-    else option_map (type_of_class subject) (name_at spaces tag)
+    else option_map (type_of_class subject) (name_at namespaces tag)
 
 -- the text of the `rdf:ID`, which stands behind `#` in an `rdf:about`
 abbrev pub id_behind : List ℕ → List ℕ → Option (List ℕ)
@@ -238,26 +240,26 @@ identity_at identity = do
 
 -- one object: what it states
 unfoldable pub element_at : List (List ℕ) → List ℕ → Option (Read (List Statement))
-element_at spaces bytes = do
+element_at namespaces bytes = do
   behind ← strip (codes "<") bytes
   tag ← until 32 behind
   identity ← until 10 tag.1
   subject ← identity_at identity.0
-  type ← type_at spaces subject tag.0
-  properties ← properties_at spaces identity.1
+  type ← type_at namespaces subject tag.0
+  properties ← properties_at namespaces identity.1
   closing ← until 10 properties.1
   Some (type ++ map (stated subject) properties.0, closing.1)
 
 -- all that objects state
 unfoldable pub elements_at : List (List ℕ) → List ℕ → Option (Read (List Statement))
-elements_at spaces bytes = do
-  elements ← many_at is_open (element_at spaces) (suc (length bytes)) bytes
+elements_at namespaces bytes = do
+  elements ← many_at is_open (element_at namespaces) (suc (length bytes)) bytes
   Some (flat_map (λ element. element) elements.0, elements.1)
 
 -- the set that objects state
 unfoldable pub set_at : List (List ℕ) → List ℕ → Option (Read (List Statement))
-set_at spaces bytes = do
-  statements ← elements_at spaces bytes
+set_at namespaces bytes = do
+  statements ← elements_at namespaces bytes
   Some (set_of statements.0, statements.1)
 
 -- ---- the header
@@ -327,38 +329,38 @@ tag_end = codes ">" ++ 10 ∷ []
 
 unfoldable pub full_at : List ℕ → Option Full
 full_at bytes = do
-  spaces ← spaces_at bytes
-  behind ← strip tag_end spaces.1
+  namespaces ← namespaces_at bytes
+  behind ← strip tag_end namespaces.1
   header ← header_at (codes "<md:FullModel rdf:about=\"urn:uuid:") behind
   objects ← strip (codes "</md:FullModel>" ++ 10 ∷ []) header.1
-  statements ← set_at spaces.0 objects
+  statements ← set_at namespaces.0 objects
   Some (record { header = header.0; statements = statements.0 })
 
 -- a section, whose tag is this
 unfoldable pub section_at : List (List ℕ) → List ℕ → List ℕ → Option (Read (List Statement))
-section_at spaces tag bytes = do
+section_at namespaces tag bytes = do
   opening ← strip (codes "<") bytes
   behind ← strip tag opening
   objects ← strip (codes " rdf:parseType=\"Statements\">" ++ 10 ∷ []) behind
-  statements ← set_at spaces objects
+  statements ← set_at namespaces objects
   closing ← strip (codes "</") statements.1
   named ← strip tag closing
   after ← strip tag_end named
   Some (statements.0, after)
 
 unfoldable pub change_at : List (List ℕ) → List ℕ → Option Change
-change_at spaces bytes = do
-  pre ← section_at spaces (codes "dm:preconditions") bytes
-  fwd ← section_at spaces (codes "dm:forwardDifferences") pre.1
-  rev ← section_at spaces (codes "dm:reverseDifferences") fwd.1
+change_at namespaces bytes = do
+  pre ← section_at namespaces (codes "dm:preconditions") bytes
+  fwd ← section_at namespaces (codes "dm:forwardDifferences") pre.1
+  rev ← section_at namespaces (codes "dm:reverseDifferences") fwd.1
   Some (record { pre = pre.0; rev = rev.0; fwd = fwd.0 })
 
 unfoldable pub difference_at : List ℕ → Option Difference
 difference_at bytes = do
-  spaces ← spaces_at bytes
-  behind ← strip tag_end spaces.1
+  namespaces ← namespaces_at bytes
+  behind ← strip tag_end namespaces.1
   header ← header_at (codes "<dm:DifferenceModel rdf:about=\"urn:uuid:") behind
-  change ← change_at spaces.0 header.1
+  change ← change_at namespaces.0 header.1
   Some (record { header = header.0; change = change })
 
 abbrev pub dm_declaration : List ℕ
@@ -391,10 +393,10 @@ document_at bytes = do
 -- ---- the judgement
 
 abbrev pub if_canonical : List ℕ → Document → Option Document
-if_canonical bytes model = if is_kept model && same_text (canonical_of model) bytes then Some model else None
+if_canonical bytes model = if is_sound_within_limits model && same_text (canonical_of model) bytes then Some model else None
 
 -- the kept model whose canonical document the bytes are
 unfoldable pub canonical_model : List ℕ → Option Document
-canonical_model bytes = if nat_le (length bytes) 67108864 then (do
+canonical_model bytes = if nat_le (length bytes) longest_document then (do
   model ← document_at bytes
   if_canonical bytes model) else None

@@ -4,17 +4,17 @@ ghost use Rattle.nm_ident.specs.Name.{ends_namespace, type_name};
 ghost use Rattle.nm_ident.specs.Order.{name_cmp};
 ghost use Rattle.nm_ident.specs.QualifiedName.{QualifiedName};
 ghost use Rattle.nm_statement.specs.Set.{IsRising};
-ghost use Rattle.nm_writer.specs.Escape.{attribute_spelling};
+ghost use Rattle.nm_text.specs.Escape.{attribute_spelling};
 ghost use Rattle.nm_writer.specs.Canonical.{class_of, class_of_iri, element, element_of, element_start, elements, group_length, identity, is_about, link_line, object_line, properties_of, property_line, IsNamedBy};
 ghost use Rattle.std.specs.List.{flat_map, prefix_len};
 ghost use Rattle.std.specs.Ordering.{is_eq};
 ghost use Rattle.std.specs.Prelude.{◌≡◌, ◌≤◌, ◌++◌, length, take, drop, not, codes, reverse, position, MatchOption, None, Some, OnOk};
 
-use crate::escape::append_attribute;
 use crate::lines::{append_all, append_closing, append_value_line};
-use crate::spaces::{Spaces, is_rdf};
-use nm_ident::{Ident, Name, NoMemory, id_text, is_predicate};
+use crate::prefixes::{Prefixes, is_rdf};
+use nm_ident::{Ident, Name, NoMemory, is_predicate};
 use nm_statement::{Object, Set, Statement};
+use nm_text::append_escaped_attribute;
 use std::alloc::Global;
 
 /// A class that can name an element.
@@ -126,15 +126,15 @@ pub fn append_elements(
     alloc: Global,
     out: &mut Vec<u8>,
     is_full: bool,
-    spaces: &Spaces,
+    prefixes: &Prefixes,
     statements: &Set,
 ) -> Result<(), NoMemory>
-    ensures { OnOk result (out.new.items ≡ out.old.items ++ elements is_full spaces.now statements.now) }
+    ensures { OnOk result (out.new.items ≡ out.old.items ++ elements is_full prefixes.now statements.now) }
 {
     let mut rest = statements.as_slice();
     while let [first, ..] = rest {
         let (group, after) = split_group(rest);
-        append_element(alloc, out, is_full, spaces, &first.subject, group)?;
+        append_element(alloc, out, is_full, prefixes, &first.subject, group)?;
         rest = after;
     }
     Ok(())
@@ -145,24 +145,24 @@ fn append_element(
     alloc: Global,
     out: &mut Vec<u8>,
     is_full: bool,
-    spaces: &Spaces,
+    prefixes: &Prefixes,
     subject: &Ident,
     group: &[Statement],
 ) -> Result<(), NoMemory>
-    ensures { OnOk result (out.new.items ≡ out.old.items ++ element is_full spaces.now subject.now group.now) }
+    ensures { OnOk result (out.new.items ≡ out.old.items ++ element is_full prefixes.now subject.now group.now) }
 {
     match element_class(group) {
         Some((place, class)) => {
-            let tag = spaces.tag(alloc, class.ns, class.local)?;
+            let tag = prefixes.tag(alloc, class.ns, class.local)?;
             append_start(out, &tag, is_full, subject)?;
-            append_properties(alloc, out, spaces, &group[..place])?;
-            append_properties(alloc, out, spaces, &group[place + 1..])?;
+            append_properties(alloc, out, prefixes, &group[..place])?;
+            append_properties(alloc, out, prefixes, &group[place + 1..])?;
             append_closing(out, &tag)
         }
         None => {
             let tag = b"rdf:Description";
             append_start(out, tag, false, subject)?;
-            append_properties(alloc, out, spaces, group)?;
+            append_properties(alloc, out, prefixes, group)?;
             append_closing(out, tag)
         }
     }
@@ -190,30 +190,20 @@ fn append_identity(out: &mut Vec<u8>, is_new: bool, subject: &Ident) -> Result<(
     } else {
         append_all(out, &[b" rdf:about=\"#"])?;
     }
-    append_id(out, subject)?;
+    subject.append_id(out)?;
     append_all(out, &[b"\""])
-}
-
-/// Appends the text of the `rdf:ID` that names a resource.
-fn append_id(out: &mut Vec<u8>, ident: &Ident) -> Result<(), NoMemory>
-    ensures { OnOk result (out.new.items ≡ out.old.items ++ id_of ident.now) }
-{
-    match ident {
-        Ident::Uuid(id) => append_all(out, &[b"_", &id_text(*id)]),
-        Ident::Local(text) => append_all(out, &[text.as_slice()]),
-    }
 }
 
 fn append_properties(
     alloc: Global,
     out: &mut Vec<u8>,
-    spaces: &Spaces,
+    prefixes: &Prefixes,
     statements: &[Statement],
 ) -> Result<(), NoMemory>
-    ensures { OnOk result (out.new.items ≡ out.old.items ++ flat_map (property_line spaces.now) statements.now) }
+    ensures { OnOk result (out.new.items ≡ out.old.items ++ flat_map (property_line prefixes.now) statements.now) }
 {
     for statement in statements {
-        append_property(alloc, out, spaces, statement)?;
+        append_property(alloc, out, prefixes, statement)?;
     }
     Ok(())
 }
@@ -221,13 +211,13 @@ fn append_properties(
 fn append_property(
     alloc: Global,
     out: &mut Vec<u8>,
-    spaces: &Spaces,
+    prefixes: &Prefixes,
     statement: &Statement,
 ) -> Result<(), NoMemory>
-    ensures { OnOk result (out.new.items ≡ out.old.items ++ property_line spaces.now statement.now) }
+    ensures { OnOk result (out.new.items ≡ out.old.items ++ property_line prefixes.now statement.now) }
 {
     let predicate = &statement.predicate;
-    let tag = spaces.tag(
+    let tag = prefixes.tag(
         alloc,
         predicate.ns().as_slice(),
         predicate.local().as_slice(),
@@ -249,7 +239,7 @@ fn append_resource(out: &mut Vec<u8>, tag: &[u8], ident: &Ident) -> Result<(), N
     ensures { OnOk result (out.new.items ≡ out.old.items ++ link_line tag.now (codes "#" ++ id_of ident.now)) }
 {
     append_all(out, &[b"<", tag, b" rdf:resource=\"#"])?;
-    append_id(out, ident)?;
+    ident.append_id(out)?;
     append_all(out, &[b"\"/>\n"])
 }
 
@@ -257,6 +247,6 @@ fn append_iri(out: &mut Vec<u8>, tag: &[u8], iri: &[u8]) -> Result<(), NoMemory>
     ensures { OnOk result (out.new.items ≡ out.old.items ++ link_line tag.now (attribute_spelling iri.now)) }
 {
     append_all(out, &[b"<", tag, b" rdf:resource=\""])?;
-    append_attribute(out, iri)?;
+    append_escaped_attribute(out, iri)?;
     append_all(out, &[b"\"/>\n"])
 }

@@ -6,20 +6,15 @@
 
 mod element;
 mod error;
-mod escape;
 mod header;
 mod laws;
 mod lines;
+mod prefixes;
 mod reading;
-mod spaces;
 mod used;
 mod writer;
 
 pub use error::CanonicalError;
-pub use escape::{escape_attribute, escape_text};
 pub use laws::documents_tell_models_apart;
 pub use reading::read_canonical;
 pub use writer::{write_difference, write_full};
-
-#[cfg(test)]
-mod tests;

@@ -3,8 +3,8 @@ ghost use Rattle.nm_writer.specs.Canonical.{closing, model_line, value_line};
 ghost use Rattle.std.specs.List.{flat_map};
 ghost use Rattle.std.specs.Prelude.{◌≡◌, ◌++◌, OnOk};
 
-use crate::escape::append_text;
 use nm_ident::{NoMemory, id_text};
+use nm_text::append_escaped_text;
 
 /// Appends the pieces, one after the other.
 pub fn append_all(out: &mut Vec<u8>, pieces: &[&[u8]]) -> Result<(), NoMemory>
@@ -21,7 +21,7 @@ pub fn append_value_line(out: &mut Vec<u8>, tag: &[u8], text: &[u8]) -> Result<(
     ensures { OnOk result (out.new.items ≡ out.old.items ++ value_line tag.now text.now) }
 {
     append_all(out, &[b"<", tag, b">"])?;
-    append_text(out, text)?;
+    append_escaped_text(out, text)?;
     append_closing(out, tag)
 }
 

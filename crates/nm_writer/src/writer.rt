@@ -1,12 +1,12 @@
 // Whole canonical documents.
-ghost use Rattle.nm_writer.specs.Canonical.{canonical_difference, canonical_full, front, section, sections, spaces_of};
+ghost use Rattle.nm_writer.specs.Canonical.{canonical_difference, canonical_full, front, section, sections, namespaces_of};
 ghost use Rattle.std.specs.Prelude.{◌≡◌, [], ◌∷◌, ◌++◌, IfOk, OnOk};
 
 use crate::element::append_elements;
 use crate::header::{append_header_lines, append_header_start};
 use crate::lines::{append_all, append_closing};
-use crate::spaces::{Namespaces, Spaces};
-use crate::used::add_spaces;
+use crate::prefixes::{Namespaces, Prefixes};
+use crate::used::add_namespaces;
 use nm_ident::NoMemory;
 use nm_model::{Difference, Full};
 use nm_statement::{Change, Set};
@@ -35,13 +35,13 @@ const DIFFERENCE_DECLARATION: &[u8] =
 pub fn write_full(alloc: Global, full: &Full) -> Result<Vec<u8>, NoMemory>
     ensures { IfOk result (λ out. out.items ≡ canonical_full full.now) }
 {
-    let spaces = full_spaces(alloc, &full.statements)?;
+    let prefixes = full_prefixes(alloc, &full.statements)?;
     let mut out = Vec::new(alloc);
-    append_front(&mut out, b"", &spaces)?;
+    append_front(&mut out, b"", &prefixes)?;
     append_header_start(&mut out, b"md:FullModel", full.header.id)?;
     append_header_lines(&mut out, &full.header)?;
     append_closing(&mut out, b"md:FullModel")?;
-    append_elements(alloc, &mut out, true, &spaces, &full.statements)?;
+    append_elements(alloc, &mut out, true, &prefixes, &full.statements)?;
     append_closing(&mut out, b"rdf:RDF")?;
     Ok(out)
 }
@@ -53,43 +53,43 @@ pub fn write_difference(alloc: Global, difference: &Difference) -> Result<Vec<u8
     ensures { IfOk result (λ out. out.items ≡ canonical_difference difference.now) }
 {
     let change = &difference.change;
-    let spaces = change_spaces(alloc, change)?;
+    let prefixes = change_prefixes(alloc, change)?;
     let mut out = Vec::new(alloc);
-    append_front(&mut out, DIFFERENCE_DECLARATION, &spaces)?;
+    append_front(&mut out, DIFFERENCE_DECLARATION, &prefixes)?;
     append_header_start(&mut out, b"dm:DifferenceModel", difference.header.id)?;
     append_header_lines(&mut out, &difference.header)?;
-    append_sections(alloc, &mut out, &spaces, change)?;
+    append_sections(alloc, &mut out, &prefixes, change)?;
     append_closing(&mut out, b"dm:DifferenceModel")?;
     append_closing(&mut out, b"rdf:RDF")?;
     Ok(out)
 }
 
 /// The namespaces that a full model uses.
-fn full_spaces(alloc: Global, statements: &Set) -> Result<Spaces, NoMemory>
-    ensures { IfOk result (λ spaces. spaces ≡ spaces_of (statements.now ∷ [])) }
+fn full_prefixes(alloc: Global, statements: &Set) -> Result<Prefixes, NoMemory>
+    ensures { IfOk result (λ prefixes. prefixes ≡ namespaces_of (statements.now ∷ [])) }
 {
     let mut namespaces = Namespaces::new(alloc);
-    add_spaces(alloc, &mut namespaces, statements)?;
-    Spaces::new(alloc, namespaces)
+    add_namespaces(alloc, &mut namespaces, statements)?;
+    Prefixes::new(alloc, namespaces)
 }
 
 /// The namespaces that a difference model uses.
-fn change_spaces(alloc: Global, change: &Change) -> Result<Spaces, NoMemory>
-    ensures { IfOk result (λ spaces. spaces ≡ spaces_of (change.now.pre ∷ change.now.fwd ∷ change.now.rev ∷ [])) }
+fn change_prefixes(alloc: Global, change: &Change) -> Result<Prefixes, NoMemory>
+    ensures { IfOk result (λ prefixes. prefixes ≡ namespaces_of (change.now.pre ∷ change.now.fwd ∷ change.now.rev ∷ [])) }
 {
     let mut namespaces = Namespaces::new(alloc);
-    add_spaces(alloc, &mut namespaces, &change.pre)?;
-    add_spaces(alloc, &mut namespaces, &change.fwd)?;
-    add_spaces(alloc, &mut namespaces, &change.rev)?;
-    Spaces::new(alloc, namespaces)
+    add_namespaces(alloc, &mut namespaces, &change.pre)?;
+    add_namespaces(alloc, &mut namespaces, &change.fwd)?;
+    add_namespaces(alloc, &mut namespaces, &change.rev)?;
+    Prefixes::new(alloc, namespaces)
 }
 
 /// Appends what stands in front of the header.
-fn append_front(out: &mut Vec<u8>, declared: &[u8], spaces: &Spaces) -> Result<(), NoMemory>
-    ensures { OnOk result (out.new.items ≡ out.old.items ++ front declared.now spaces.now) }
+fn append_front(out: &mut Vec<u8>, declared: &[u8], prefixes: &Prefixes) -> Result<(), NoMemory>
+    ensures { OnOk result (out.new.items ≡ out.old.items ++ front declared.now prefixes.now) }
 {
     append_all(out, &[XML_LINE, ROOT_START, declared])?;
-    spaces.append_declarations(out)?;
+    prefixes.append_declarations(out)?;
     append_all(out, &[b">\n"])
 }
 
@@ -97,26 +97,26 @@ fn append_front(out: &mut Vec<u8>, declared: &[u8], spaces: &Spaces) -> Result<(
 fn append_sections(
     alloc: Global,
     out: &mut Vec<u8>,
-    spaces: &Spaces,
+    prefixes: &Prefixes,
     change: &Change,
 ) -> Result<(), NoMemory>
-    ensures { OnOk result (out.new.items ≡ out.old.items ++ sections spaces.now change.now) }
+    ensures { OnOk result (out.new.items ≡ out.old.items ++ sections prefixes.now change.now) }
 {
-    append_section(alloc, out, b"dm:preconditions", spaces, &change.pre)?;
-    append_section(alloc, out, b"dm:forwardDifferences", spaces, &change.fwd)?;
-    append_section(alloc, out, b"dm:reverseDifferences", spaces, &change.rev)
+    append_section(alloc, out, b"dm:preconditions", prefixes, &change.pre)?;
+    append_section(alloc, out, b"dm:forwardDifferences", prefixes, &change.fwd)?;
+    append_section(alloc, out, b"dm:reverseDifferences", prefixes, &change.rev)
 }
 
 fn append_section(
     alloc: Global,
     out: &mut Vec<u8>,
     tag: &[u8],
-    spaces: &Spaces,
+    prefixes: &Prefixes,
     statements: &Set,
 ) -> Result<(), NoMemory>
-    ensures { OnOk result (out.new.items ≡ out.old.items ++ section tag.now spaces.now statements.now) }
+    ensures { OnOk result (out.new.items ≡ out.old.items ++ section tag.now prefixes.now statements.now) }
 {
     append_all(out, &[b"<", tag, b" rdf:parseType=\"Statements\">\n"])?;
-    append_elements(alloc, out, false, spaces, statements)?;
+    append_elements(alloc, out, false, prefixes, statements)?;
     append_closing(out, tag)
 }

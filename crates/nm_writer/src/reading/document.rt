@@ -7,18 +7,15 @@ ghost use Rattle.nm_writer.specs.Reading as spec;
 ghost use Rattle.std.specs.Prelude.{◌≡◌, IfOk};
 
 use crate::error::CanonicalError;
+use crate::reading::declared::Declared;
 use crate::reading::element::read_set;
 use crate::reading::header::read_header;
 use crate::reading::pieces::strip;
-use crate::reading::spaces::Declared;
 use crate::writer::{write_difference, write_full};
 use nm_ident::NoMemory;
-use nm_model::{Difference, Document, Full};
+use nm_model::{Difference, Document, Full, LONGEST_DOCUMENT};
 use nm_statement::{Change, Set};
 use std::alloc::Global;
-
-/// The longest document, in bytes.
-const LONGEST_DOCUMENT: usize = 67_108_864;
 
 /// What every canonical document begins with.
 const ROOT: &[u8] =
@@ -49,7 +46,7 @@ pub fn read_canonical(alloc: Global, bytes: &[u8]) -> Result<Document, Canonical
 fn judged(alloc: Global, model: Document, bytes: &[u8]) -> Result<Document, CanonicalError>
     ensures { Gives (λ model. model) result (spec.if_canonical bytes.now model) }
 {
-    if !model.is_kept() {
+    if !(model.is_sound() && model.is_within_limits()) {
         return Err(CanonicalError::NotCanonical);
     }
     let text = written(alloc, &model)?;

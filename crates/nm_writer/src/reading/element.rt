@@ -5,10 +5,10 @@ ghost use Rattle.nm_ident.specs.Name.{type_name as rdf_type};
 ghost use Rattle.std.specs.Prelude.{◌≡◌, ◌++◌, IfOk, map, OnOk};
 
 use crate::error::CanonicalError;
+use crate::reading::declared::Declared;
 use crate::reading::kept::{read_id, read_literal};
 use crate::reading::pieces::{place_of, strip, until};
 use crate::reading::references::unescaped;
-use crate::reading::spaces::Declared;
 use nm_ident::{Ident, Name, NoMemory, RDF_NAMESPACE, Text};
 use nm_statement::{Object, Set, Statement};
 use std::alloc::Global;

@@ -15,7 +15,7 @@ loop-rest-preserved c =
     record {
       rising = subst IsRising (sym c.split_group.ensures.behind) (drop_rises (group_length rest) rest c.loop-rest.invariant.rising);
       written =
-          elements_step c.args.is_full c.args.spaces.now rest c.first-item.result c.split_group.result.0.now c.split_group.result.1.now
-          c.loop-rest.out.items c.append_element.new.out.items (c.args.out.now.items ++ elements c.args.is_full c.args.spaces.now c.args.statements.now)
+          elements_step c.args.is_full c.args.prefixes.now rest c.first-item.result c.split_group.result.0.now c.split_group.result.1.now
+          c.loop-rest.out.items c.append_element.new.out.items (c.args.out.now.items ++ elements c.args.is_full c.args.prefixes.now c.args.statements.now)
           c.in-len1-up.len_at_least c.first-item.is c.split_group.ensures.group c.split_group.ensures.behind c.loop-rest.invariant.rising c.in_ok-append_element.ensures c.loop-rest.invariant.written;
     }

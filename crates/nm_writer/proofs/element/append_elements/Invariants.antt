@@ -7,7 +7,7 @@ use Rattle.nm_writer.proofs.element.append_elements.Given as goal
 abbrev pub invariant-loop-rest : goal.invariant-loop-rest
 invariant-loop-rest l = record {
   rising : IsRising l.rest;
-  written : l.out.items ++ elements l.is_full l.spaces l.rest ≡ l.initial.out.items ++ elements l.is_full l.spaces l.statements;
+  written : l.out.items ++ elements l.is_full l.prefixes l.rest ≡ l.initial.out.items ++ elements l.is_full l.prefixes l.statements;
 }
 
 abbrev pub decreases-loop-rest : goal.decreases-loop-rest

@@ -1,7 +1,7 @@
 use Rattle.std.proofs.Common.{◌≡◌, ◌∙◌, sym, refl, true, false}
 use Rattle.nm_ident.specs.QualifiedName.{QualifiedName}
 use Rattle.nm_writer.specs.Canonical.{split_iri}
-use Rattle.nm_writer.specs.Spaces.{is_rdf}
+use Rattle.nm_writer.specs.Namespaces.{is_rdf}
 use Rattle.nm_writer.proofs.Classes.{class_of_iri-none, class_of_iri-is, split_iri-found}
 use Rattle.nm_writer.proofs.element.class_of_iri.Goals as goal
 use Rattle.nm_writer.proofs.element.class_of_iri.Goals.{else-is_predicate-via-then-is_predicate+else-not-is_rdf, else-is_predicate-via-else-is_predicate}

@@ -1,6 +1,6 @@
 use Rattle.std.proofs.Common.{◌≡◌, ◌∙◌, sym, ap, ◌&&◌, true, false, codes}
-use Rattle.nm_ident.specs.Name.{same_text}
-use Rattle.nm_writer.specs.Spaces.{is_rdf}
+use Rattle.nm_terms.specs.Bytes.{same_text}
+use Rattle.nm_writer.specs.Namespaces.{is_rdf}
 use Rattle.nm_writer.proofs.Classes.{is_type-is}
 use Rattle.nm_writer.proofs.element.is_type.Goals as goal
 
