@@ -1,0 +1,16 @@
+pub mod Reading
+pub mod Name
+pub mod Value
+pub mod Tag
+pub mod Start
+pub mod Mark
+pub mod Run
+pub mod Piece
+pub mod Spells
+pub mod Cutting
+pub mod Meant
+pub mod Raw
+pub mod Token
+pub mod Inside
+pub mod Next
+pub mod Laws
