@@ -1,0 +1,269 @@
+// What the pieces before a place leave there, and what the next piece does.
+ghost use Rattle.nm_ident.specs.Name.{is_name};
+ghost use Rattle.nm_ident.specs.QualifiedName.{QualifiedName};
+ghost use Rattle.nm_piece.specs.declared.piece.Piece.TheVariants as piece;
+ghost use Rattle.nm_reader.specs.Document as document;
+ghost use Rattle.nm_reader.specs.Limits as limits;
+ghost use Rattle.nm_reader.specs.Meaning.{listed};
+ghost use Rattle.nm_reader.specs.Namespaces.{same_name};
+ghost use Rattle.nm_reader.specs.Place as places;
+ghost use Rattle.nm_reader.specs.Rules as rules;
+ghost use Rattle.nm_reader.specs.Taken as spec;
+ghost use Rattle.nm_text.specs.Characters.{is_text};
+ghost use Rattle.std.specs.Prelude.{◌≡◌, ◌&&◌, ◌++◌, MatchResult, OnOk, not, true};
+
+use crate::counts::Counts;
+use crate::fact::Fact;
+use crate::fault::Code;
+use crate::judging::{Judged, judge, place_behind};
+use crate::meaning::Meaning;
+use crate::namespaces::{declared_by, same_spelling};
+use crate::opened::{Declaration, Declarations, Opened};
+use crate::place::Place;
+use crate::refusal::Refusal;
+use crate::texts::{
+    is_after_root, is_misplaced_text, may_end, passes_literal, told_at_end, with_text,
+};
+use nm_ident::{NoMemory, Text};
+use nm_piece::{Attribute, Piece, QName};
+use std::alloc::Global;
+use std::marker::Model;
+use std::mem;
+
+/// What the pieces so far leave behind them.
+#[derive(Drop)]
+pub struct Reader {
+    elements: Vec<Opened>,
+    place: Place,
+    told: Vec<Fact>,
+    counted: Counts,
+    begun: bool,
+}
+
+impl Model for Reader {
+    ghost use Rattle.std.specs.Prelude.{IsTrue};
+    ghost use Rattle.nm_reader.specs.Context.{Context};
+    ghost use Rattle.nm_reader.specs.Limits.{is_within_limits};
+    ghost use Rattle.nm_reader.specs.Taken.{are_sound_behind, is_sound_place};
+
+    ghost Value = { Context };
+
+    ghost view = { λ r. record { elements = r.elements.items; place = r.place; told = r.told.items; counted = r.counted; begun = r.begun } };
+
+    ghost invariant = { λ r. IsTrue (is_within_limits r.counted) × IsTrue (is_sound_place r.place) × IsTrue (are_sound_behind r.elements.items) };
+}
+
+impl Reader {
+    ghost use Rattle.nm_reader.specs.Context.{beginning, is_whole, left};
+
+    /// Before the first piece.
+    pub fn new(alloc: Global) -> Reader
+        ensures { result ≡ beginning }
+    {
+        Reader {
+            elements: Vec::new(alloc),
+            place: Place::BeforeRoot,
+            told: Vec::new(alloc),
+            counted: Counts {
+                statements: 0,
+                changes: 0,
+                profiles: 0,
+                dependencies: 0,
+                superseded: 0,
+            },
+            begun: false,
+        }
+    }
+
+    #[tactic(auto, unfolding(crate::specs::Rules::code_at))]
+    /// Takes a comment or an instruction.
+    pub fn take_skip(&mut self)
+        ensures { spec.IsBehind self.old piece.Skip self.new }
+    {
+        self.begun = true;
+    }
+
+    #[tactic(auto, unfolding(crate::specs::Rules::code_at))]
+    /// Takes an XML declaration.
+    pub fn take_start(&mut self, encoding: &Option<Text>) -> Result<(), Refusal>
+        ensures { MatchResult result (λ _. spec.IsBehind self.old (piece.Start encoding.now) self.new) (λ refusal. spec.IsRefusal refusal self.old (piece.Start encoding.now)) }
+    {
+        if self.begun {
+            return Err(Refusal::Rule(Code::Stray));
+        }
+        if !is_read_encoding(encoding) {
+            return Err(Refusal::Rule(Code::Encoding));
+        }
+        self.begun = true;
+        Ok(())
+    }
+
+    #[tactic(auto, using(crate::proofs::Joined::sound_with_text), unfolding(crate::specs::Rules::code_at))]
+    /// Takes a text.
+    pub fn take_text(&mut self, text: &Text) -> Result<(), Refusal>
+        requires { is_text text.now ≡ true }
+        ensures { MatchResult result (λ _. spec.IsBehind self.old (piece.Text text.now) self.new) (λ refusal. spec.IsRefusal refusal self.old (piece.Text text.now)) }
+    {
+        if passes_literal(&self.place, text.as_slice()) {
+            return Err(Refusal::Rule(Code::Limit));
+        }
+        if is_misplaced_text(&self.place, text.as_slice()) {
+            return Err(Refusal::Rule(Code::Text));
+        }
+        let place = mem::replace(&mut self.place, Place::InSkipped);
+        self.place = with_text(place, text.as_slice())?;
+        self.begun = true;
+        Ok(())
+    }
+
+    /// Leaves the innermost element, which is open.
+    fn leave(&mut self, alloc: Global) -> Result<(), NoMemory>
+        ensures { OnOk result (self.new ≡ left self.old) }
+    {
+        self.begun = true;
+        if self.elements.is_empty() {
+            return Ok(());
+        }
+        let opened = self.elements.remove(0);
+        let place = mem::replace(&mut self.place, opened.behind);
+        if let Some(fact) = told_at_end(alloc, place)? {
+            self.told.push(fact)?;
+        }
+        Ok(())
+    }
+
+    /// Whether the innermost element has a name that is spelt so.
+    fn closes(&self, name: &QName) -> bool
+        ensures { result ≡ rules.closes name.now self.now.elements }
+    {
+        match self.elements.first() {
+            Some(opened) => same_spelling(&opened.name, name),
+            None => false,
+        }
+    }
+
+    #[tactic(auto, unfolding(crate::specs::Rules::code_at))]
+    /// Takes a closing tag.
+    pub fn take_close(&mut self, alloc: Global, name: &QName) -> Result<(), Refusal>
+        ensures { MatchResult result (λ _. spec.IsBehind self.old (piece.Close name.now) self.new) (λ refusal. spec.IsRefusal refusal self.old (piece.Close name.now)) }
+    {
+        if !self.closes(name) {
+            return Err(Refusal::Rule(Code::Nesting));
+        }
+        if !may_end(&self.place) {
+            return Err(Refusal::Rule(Code::Header));
+        }
+        self.leave(alloc)?;
+        Ok(())
+    }
+
+    /// Notes what a tag tells.
+    fn tell(&mut self, tells: Option<Fact>) -> Result<(), NoMemory>
+        ensures { OnOk result (self.new ≡ record self.old { told = self.old.told ++ listed tells }) }
+    {
+        if let Some(fact) = tells {
+            self.told.push(fact)?;
+        }
+        Ok(())
+    }
+
+    #[tactic(auto, using(crate::proofs::Entered::behind_sound))]
+    /// Goes into an element.
+    fn enter(&mut self, name: QName, own: Vec<Declaration>, judged: Judged) -> Result<(), NoMemory>
+        requires counted { limits.is_within_limits judged.counted ≡ true }
+        requires inside { spec.is_sound_place judged.meaning.inside ≡ true }
+        ensures { OnOk result (self.new ≡ spec.entered_by self.old name own.items judged) }
+    {
+        let Judged {
+            role,
+            meaning,
+            counted,
+        } = judged;
+        let Meaning {
+            inside,
+            tells,
+            counts: _,
+        } = meaning;
+        self.tell(tells)?;
+        let outside = mem::replace(&mut self.place, inside);
+        let opened = Opened {
+            name,
+            behind: place_behind(role, outside),
+            declared: Declarations::of_list(own),
+        };
+        self.elements.insert(0, opened)?;
+        self.counted = counted;
+        self.begun = true;
+        Ok(())
+    }
+
+    #[tactic(auto, using(crate::proofs::Entered::tag_code_is, crate::proofs::Entered::entered_is, crate::proofs::Entered::judged_sound))]
+    /// Takes an opening tag, or the tag of an empty element.
+    pub fn take_open(
+        &mut self,
+        alloc: Global,
+        name: QName,
+        attributes: &[Attribute],
+        empty: bool,
+    ) -> Result<(), Refusal>
+        requires { is_name name.local ≡ true }
+        ensures { MatchResult result (λ _. spec.IsBehind self.old (piece.Open name attributes.now empty) self.new) (λ refusal. spec.IsRefusal refusal self.old (piece.Open name attributes.now empty)) }
+    {
+        let own = declared_by(alloc, attributes)?;
+        let judged = judge(
+            alloc,
+            &self.place,
+            &self.elements,
+            &own,
+            &name,
+            attributes,
+            empty,
+            self.counted,
+        )?;
+        self.enter(name, own, judged)?;
+        if empty {
+            self.leave(alloc)?;
+        }
+        Ok(())
+    }
+
+    #[tactic(auto, unfolding(crate::specs::Rules::code_at))]
+    /// Takes the next piece. After a refusal the context is not used again.
+    pub fn take(&mut self, alloc: Global, piece: Piece) -> Result<(), Refusal>
+        requires { spec.is_sound_piece piece ≡ true }
+        ensures { MatchResult result (λ _. spec.IsBehind self.old piece self.new) (λ refusal. spec.IsRefusal refusal self.old piece) }
+    {
+        match piece {
+            Piece::Start { encoding } => self.take_start(&encoding),
+            Piece::Doctype => Err(Refusal::Rule(Code::Doctype)),
+            Piece::Open {
+                name,
+                attributes,
+                empty,
+            } => self.take_open(alloc, name, attributes.as_slice(), empty),
+            Piece::Close { name } => self.take_close(alloc, &name),
+            Piece::Text(text) => self.take_text(&text),
+            Piece::Skip => {
+                self.take_skip();
+                Ok(())
+            }
+        }
+    }
+
+    /// Whether the document may end here: its root is behind, and no element is open.
+    pub fn is_whole(&self) -> bool
+        ensures { result ≡ is_whole self.now }
+    {
+        is_after_root(&self.place) && self.elements.is_empty()
+    }
+}
+
+/// Whether the encoding is UTF-8 in any letter case, or none is named.
+fn is_read_encoding(encoding: &Option<Text>) -> bool
+    ensures { result ≡ document.is_read_encoding encoding.now }
+{
+    match encoding {
+        Some(encoding) => encoding.as_slice().eq_ignore_ascii_case(b"UTF-8"),
+        None => true,
+    }
+}

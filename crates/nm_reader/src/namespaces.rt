@@ -1,0 +1,238 @@
+// What a tag declares, and what names mean (Namespaces in XML, sections 3 to 6).
+ghost use Rattle.nm_reader.specs.Context.{scope_in};
+ghost use Rattle.nm_reader.specs.Namespaces as spec;
+ghost use Rattle.std.specs.List.{list_any, list_all};
+ghost use Rattle.std.specs.Option.{option_map};
+ghost use Rattle.std.specs.Prelude.{◌≡◌, ◌++◌, IfOk, Some, codes, is_some};
+
+use crate::opened::{Declaration, Opened};
+use nm_ident::{NoMemory, Text};
+use nm_piece::{Attribute, QName};
+use std::alloc::Global;
+
+/// The namespace of the prefix `xml` (Namespaces in XML, section 3).
+pub const XML_NAMESPACE: &[u8] = b"http://www.w3.org/XML/1998/namespace";
+
+/// Whether the prefixes are spelt alike, or both are wanting.
+fn same_prefix(x: &Option<Text>, y: &Option<Text>) -> bool
+    ensures { result ≡ spec.same_prefix x.now y.now }
+{
+    match x {
+        Some(x) => match y {
+            Some(y) => x.as_slice() == y.as_slice(),
+            None => false,
+        },
+        None => y.is_none(),
+    }
+}
+
+/// Whether the names are spelt alike.
+pub fn same_spelling(x: &QName, y: &QName) -> bool
+    ensures { result ≡ spec.same_spelling x.now y.now }
+{
+    same_prefix(&x.prefix, &y.prefix) && x.local.as_slice() == y.local.as_slice()
+}
+
+/// The namespace that the first of the declarations of a prefix gives it.
+fn declared<'a>(declarations: &'a [Declaration], prefix: &Option<Text>) -> Option<&'a [u8]>
+    ensures { option_map (λ namespace. namespace.now) result ≡ spec.declared declarations.now prefix.now }
+{
+    let mut rest = declarations;
+    while let [declaration, others @ ..] = rest {
+        if same_prefix(&declaration.prefix, prefix) {
+            return Some(declaration.namespace.as_slice());
+        }
+        rest = others;
+    }
+    None
+}
+
+/// Whether the attribute is a declaration.
+pub fn is_declaration(attribute: &Attribute) -> bool
+    ensures { result ≡ is_some (spec.declaration_of attribute.now) }
+{
+    match &attribute.name.prefix {
+        Some(prefix) => prefix.as_slice() == b"xmlns".as_slice(),
+        None => attribute.name.local.as_slice() == b"xmlns".as_slice(),
+    }
+}
+
+/// Whether the prefix may be declared for the namespace.
+fn is_allowed_prefix(prefix: &[u8], namespace: &[u8]) -> bool
+    ensures { result ≡ spec.is_allowed_prefix (Some prefix.now) namespace.now }
+{
+    prefix != b"xml".as_slice() && prefix != b"xmlns".as_slice() && !namespace.is_empty()
+}
+
+#[tactic(auto, using(crate::proofs::Scopes::declared_first, crate::proofs::Scopes::declared_later))]
+/// The namespace of a prefix by the declarations of the open elements, of which the innermost
+/// stands first.
+fn in_force<'a>(elements: &'a [Opened], prefix: &Option<Text>) -> Option<&'a [u8]>
+    ensures { option_map (λ namespace. namespace.now) result ≡ spec.declared (scope_in elements.now) prefix.now }
+{
+    let mut rest = elements;
+    while let [opened, outer @ ..] = rest {
+        match declared(opened.declared.as_slice(), prefix) {
+            Some(namespace) => return Some(namespace),
+            None => rest = outer,
+        }
+    }
+    None
+}
+
+/// Whether the prefix is `xml`.
+fn is_xml(prefix: &Option<Text>) -> bool
+    ensures { result ≡ spec.same_prefix prefix.now (Some (codes "xml")) }
+{
+    match prefix {
+        Some(prefix) => prefix.as_slice() == b"xml".as_slice(),
+        None => false,
+    }
+}
+
+#[tactic(auto, using(crate::proofs::Scopes::declared_first, crate::proofs::Scopes::declared_later))]
+/// The namespace of a prefix by a tag's own declarations and those of the open elements.
+pub fn namespace_of<'a>(
+    own: &'a [Declaration],
+    elements: &'a [Opened],
+    prefix: &Option<Text>,
+) -> Option<&'a [u8]>
+    ensures { option_map (λ namespace. namespace.now) result ≡ spec.namespace_of (own.now ++ scope_in elements.now) prefix.now }
+{
+    if is_xml(prefix) {
+        return Some(XML_NAMESPACE);
+    }
+    match declared(own, prefix) {
+        Some(namespace) => Some(namespace),
+        None => in_force(elements, prefix),
+    }
+}
+
+/// The namespace of an element: empty where it has none.
+pub fn element_namespace<'a>(
+    own: &'a [Declaration],
+    elements: &'a [Opened],
+    name: &QName,
+) -> &'a [u8]
+    ensures { result.now ≡ (spec.element_name (own.now ++ scope_in elements.now) name.now).ns }
+{
+    match namespace_of(own, elements, &name.prefix) {
+        Some(namespace) => namespace,
+        None => &[],
+    }
+}
+
+/// The namespace of an attribute: empty where it has none.
+pub fn attribute_namespace<'a>(
+    own: &'a [Declaration],
+    elements: &'a [Opened],
+    prefix: &Option<Text>,
+) -> &'a [u8]
+    ensures { result.now ≡ spec.attribute_namespace (own.now ++ scope_in elements.now) prefix.now }
+{
+    if prefix.is_none() {
+        return &[];
+    }
+    match namespace_of(own, elements, prefix) {
+        Some(namespace) => namespace,
+        None => &[],
+    }
+}
+
+/// Whether the prefix is declared; a name without one needs no declaration.
+fn is_declared(own: &[Declaration], elements: &[Opened], prefix: &Option<Text>) -> bool
+    ensures { result ≡ spec.is_declared (own.now ++ scope_in elements.now) prefix.now }
+{
+    prefix.is_none() || namespace_of(own, elements, prefix).is_some()
+}
+
+/// Whether the attribute is an allowed declaration, or else has a declared prefix or none.
+fn has_declared_prefix(own: &[Declaration], elements: &[Opened], attribute: &Attribute) -> bool
+    ensures { result ≡ spec.has_declared_prefix (spec.declaration_of attribute.now) (own.now ++ scope_in elements.now) attribute.now }
+{
+    match &attribute.name.prefix {
+        Some(prefix) if prefix.as_slice() == b"xmlns".as_slice() => {
+            is_allowed_prefix(attribute.name.local.as_slice(), attribute.value.as_slice())
+        }
+        _ => is_declared(own, elements, &attribute.name.prefix),
+    }
+}
+
+/// Whether every prefix of a tag is declared, and each of its declarations is allowed.
+pub fn has_declared_prefixes(
+    own: &[Declaration],
+    elements: &[Opened],
+    name: &QName,
+    attributes: &[Attribute],
+) -> bool
+    ensures { result ≡ spec.has_declared_prefixes (own.now ++ scope_in elements.now) name.now attributes.now }
+{
+    is_declared(own, elements, &name.prefix) && have_declared_prefixes(own, elements, attributes)
+}
+
+fn have_declared_prefixes(
+    own: &[Declaration],
+    elements: &[Opened],
+    attributes: &[Attribute],
+) -> bool
+    ensures { result ≡ list_all (λ attribute. spec.has_declared_prefix (spec.declaration_of attribute) (own.now ++ scope_in elements.now) attribute) attributes.now }
+{
+    attributes
+        .iter()
+        .all(|attribute| has_declared_prefix(own, elements, attribute))
+}
+
+/// Whether one of the others is spelt as the attribute.
+fn is_repeated(attribute: &Attribute, others: &[Attribute]) -> bool
+    ensures { result ≡ list_any (spec.are_spelt_alike attribute.now) others.now }
+{
+    others
+        .iter()
+        .any(|other| same_spelling(&attribute.name, &other.name))
+}
+
+/// Whether no attribute of a tag is spelt twice.
+pub fn are_spelt_once(attributes: &[Attribute]) -> bool
+    ensures { result ≡ spec.are_spelt_once attributes.now }
+{
+    let mut rest = attributes;
+    while let [attribute, others @ ..] = rest {
+        if is_repeated(attribute, others) {
+            return false;
+        }
+        rest = others;
+    }
+    true
+}
+
+/// What the attributes of a tag declare.
+pub fn declared_by(alloc: Global, attributes: &[Attribute]) -> Result<Vec<Declaration>, NoMemory>
+    ensures { IfOk result (λ declarations. declarations.items ≡ spec.declared_by attributes.now) }
+{
+    let mut declarations = Vec::new(alloc);
+    let mut rest = attributes;
+    while let [attribute, others @ ..] = rest {
+        if let Some(declaration) = declaration_of(alloc, attribute)? {
+            declarations.push(declaration)?;
+        }
+        rest = others;
+    }
+    Ok(declarations)
+}
+
+/// What the attribute declares.
+fn declaration_of(alloc: Global, attribute: &Attribute) -> Result<Option<Declaration>, NoMemory>
+    ensures { IfOk result (λ declaration. declaration ≡ spec.declaration_of attribute.now) }
+{
+    if !is_declaration(attribute) {
+        return Ok(None);
+    }
+    let prefix = match &attribute.name.prefix {
+        Some(_) => Some(attribute.name.local.copy(alloc)?),
+        None => None,
+    };
+    Ok(Some(Declaration {
+        prefix,
+        namespace: attribute.value.copy(alloc)?,
+    }))
+}
