@@ -1,0 +1,4 @@
+pub mod Dates
+pub mod Orders
+pub mod OnLiterals
+mod Examples

@@ -1,0 +1,7 @@
+pub mod Lists
+pub mod Lives
+pub mod Sorting
+pub mod Orders
+pub mod Missing
+pub mod Joins
+mod Examples

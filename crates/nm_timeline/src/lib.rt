@@ -1,0 +1,11 @@
+//! Where a statement stands in the changes that name it.
+#![tactic(auto)]
+
+mod laws;
+mod part;
+
+pub use laws::parts_are_ordered;
+pub use part::Part;
+
+#[cfg(test)]
+mod tests;
