@@ -18,4 +18,15 @@ for words in ([], [""], ["Session"], ["session", ""], ["session", "extra"], ["se
     os.close(reading)
     check(f"words {words}", (2, b"", USAGE, GIVEN), (ended.returncode, ended.stdout, ended.stderr, left))
 
+
+
+def status_with_errors_to(where: str) -> int:
+    """The status at words that are no form, where standard error is what the shell makes of this."""
+    return subprocess.run(["bash", "-c", f'"$0" session extra {where}', NM], stdin=subprocess.DEVNULL,
+                          stdout=subprocess.DEVNULL, timeout=60).returncode
+
+
+check("words that are no form, with a full standard error", 2, status_with_errors_to("2>/dev/full"))
+check("words that are no form, with a closed standard error", 2, status_with_errors_to("2>&-"))
+
 finish()

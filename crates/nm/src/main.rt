@@ -8,7 +8,7 @@ use std::env::Env;
 use std::process::ExitCode;
 use std::{env, io};
 
-fn main(rt: HostRuntime) -> io::Result<ExitCode> {
+fn main(rt: HostRuntime) -> ExitCode {
     let status = match words(&rt) {
         Ok(words) => {
             let mut input = ReadSource::new(rt.stdin());
@@ -18,9 +18,10 @@ fn main(rt: HostRuntime) -> io::Result<ExitCode> {
         Err(error) => status_of(error),
     };
     if status == Status::Usage {
-        eprintln!(rt; "usage: nm session")?;
+        // The status tells it too, so that a standard error that takes nothing changes no more.
+        let _ = eprintln!(rt; "usage: nm session");
     }
-    Ok(ExitCode::from(status as u8))
+    ExitCode::from(status.code())
 }
 
 /// The words after the program's name.

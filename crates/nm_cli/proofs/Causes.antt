@@ -5,7 +5,7 @@ use Rattle.std.specs.Option.{option_map}
 use Rattle.nm_statement.specs.Set.{has}
 use Rattle.nm_statement.specs.declared.set.Change.{Change}
 use Rattle.nm_statement.specs.declared.statement.Statement.{Statement}
-use Rattle.nm_cli.specs.Replay.{Cause, first_of, first_cause}
+use Rattle.nm_cli.specs.Replay.{StatementCause, first_of, first_cause}
 use Rattle.nm_cli.specs.declared.refusal.Part.{Part}
 use Rattle.nm_cli.specs.declared.refusal.Part.TheVariants.{Precondition, Reverse, Forward}
 
@@ -29,7 +29,7 @@ first_of-filter test (x ∷ xs) = by (first_of-filter test xs) (test x)
     by others true = refl
     by others false = others
 
-abbrev pub cause_with : Part → Statement → Cause
+abbrev pub cause_with : Part → Statement → StatementCause
 cause_with part statement = (part, statement)
 
 first_named : (part : Part) (test : Statement → Bool) (xs : List Statement)
@@ -46,7 +46,7 @@ module _ (set : List Statement) (change : Change) where
   lacks statement = not (has set statement)
 
   -- the first cause, by what each of the three lists gives
-  abbrev pub chosen : Option Statement → Option Statement → Option Statement → Option Cause
+  abbrev pub chosen : Option Statement → Option Statement → Option Statement → Option StatementCause
   chosen pre rev fwd =
       or_else (option_map (cause_with Precondition) pre)
       (or_else (option_map (cause_with Reverse) rev) (option_map (cause_with Forward) fwd))
@@ -54,9 +54,9 @@ module _ (set : List Statement) (change : Change) where
   first_cause_is : chosen (find lacks change.pre) (find lacks change.rev) (find (has set) change.fwd) ≡ first_cause set change
   unfolding first_cause
   first_cause_is =
-      let pre : List Cause = map (cause_with Precondition) (filter lacks change.pre) in
-      let rev : List Cause = map (cause_with Reverse) (filter lacks change.rev) in
-      let fwd : List Cause = map (cause_with Forward) (filter (has set) change.fwd) in
+      let pre : List StatementCause = map (cause_with Precondition) (filter lacks change.pre) in
+      let rev : List StatementCause = map (cause_with Reverse) (filter lacks change.rev) in
+      let fwd : List StatementCause = map (cause_with Forward) (filter (has set) change.fwd) in
       sym (
       first_of-append (pre ++ rev) fwd
       ∙ (λ k. or_else (first_of-append pre rev k) (first_of fwd))

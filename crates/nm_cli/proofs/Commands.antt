@@ -3,14 +3,14 @@ use Rattle.std.proofs.Common.{◌≡◌, ℕ, ◌+◌, ◌-◌, ◌<◌, ◌≤�
 use Rattle.std.proofs.lemmas.List.{get_or-take, length-take, length-append, take-take, take_at, drop_at, drop-take, get_or_append_left, get_or-append_right}
 use Rattle.std.proofs.lemmas.Bool.{le-leb, lt-leb}
 use Rattle.std.specs.List.{position}
-use Rattle.nm_base.specs.declared.outcome.Status.{Status}
-use Rattle.nm_base.specs.declared.outcome.Status.TheVariants.{Done, Refused, Usage, ReadFault, WriteFault, NoMemory, BadSession, Cut, TooMuch, DoorFault}
 use Rattle.nm_cli.specs.Turns.{TakesCommand, CommandStops}
-use Rattle.nm_cli.specs.Held.{Held}
+use Rattle.nm_cli.specs.Buffered.{Buffered}
+use Rattle.nm_cli.specs.Limits.{longest_line, longest_session}
 use Rattle.nm_cli.specs.Input.{coming, in_session, GivesLine, GivesBody, BodyStops}
-use Rattle.nm_cli.specs.Stream.{Command, BadLine, Short, by_line, by_word, with_body, next_in, is_line_feed, line_end, longest_session}
+use Rattle.nm_cli.specs.Stream.{Command, BadLine, Short, by_line, by_word, with_body, next_in, is_line_feed, line_end}
 use Rattle.nm_cli.specs.Word.{word_of, body_length}
 use Rattle.nm_cli.specs.declared.stop.Stop.{Stop}
+use Rattle.nm_cli.specs.declared.stop.Stop.TheVariants as stops
 use Rattle.nm_cli.specs.declared.turn.State.{State}
 use Rattle.nm_cli.specs.declared.word.Word.{Word}
 use Rattle.nm_cli.proofs.LineFeeds.{none-each, some-at}
@@ -29,23 +29,23 @@ session_front front rest bytes given n e size limit =
     take-take n (longest_session - given) bytes (omega arith) ∙ ap (take n) e ∙ take_at front rest n size
 
 -- a line and its line feed stand next
-line_stands : (line rest bytes : List ℕ) (given : ℕ) → bytes ≡ line ++ 10 ∷ rest → length line < 257 → position is_line_feed line ≡ None → given + length line < longest_session
+line_stands : (line rest bytes : List ℕ) (given : ℕ) → bytes ≡ line ++ 10 ∷ rest → length line ≤ longest_line → position is_line_feed line ≡ None → given + length line < longest_session
     → line_end (take (longest_session - given) bytes) ≡ Some (length line)
 line_stands line rest bytes given e short whole limit =
     let n = length line in
     let session = take (longest_session - given) bytes in
-    let within : n < length (take 257 session) =
-    omega (arith, length-take 257 session, length-take (longest_session - given) bytes, ap length e, length-append line (10 ∷ rest)) in
-    let at : (k : ℕ) → k ≤ n → get_or (take 257 session) k 0 ≡ get_or (line ++ 10 ∷ rest) k 0 = λ k h.
-    get_or-take 257 session k 0 (omega arith) ∙ get_or-take (longest_session - given) bytes k 0 (omega arith) ∙ ap (λ l. get_or l k 0) e in
+    let within : n < length (take (longest_line + 1) session) =
+    omega (arith, length-take (longest_line + 1) session, length-take (longest_session - given) bytes, ap length e, length-append line (10 ∷ rest)) in
+    let at : (k : ℕ) → k ≤ n → get_or (take (longest_line + 1) session) k 0 ≡ get_or (line ++ 10 ∷ rest) k 0 = λ k h.
+    get_or-take (longest_line + 1) session k 0 (omega arith) ∙ get_or-take (longest_session - given) bytes k 0 (omega arith) ∙ ap (λ l. get_or l k 0) e in
     let nothing : n - n ≡ 0 = omega arith in
-    let feed : get_or (take 257 session) n 0 ≡ 10 =
+    let feed : get_or (take (longest_line + 1) session) n 0 ≡ 10 =
     at n (omega arith) ∙ get_or-append_right line (10 ∷ rest) n n 0 refl (omega arith) ∙ ap (λ i. get_or (10 ∷ rest) i 0) nothing in
-    some-at is_line_feed (take 257 session) n within (ap is_line_feed feed)
+    some-at is_line_feed (take (longest_line + 1) session) n within (ap is_line_feed feed)
     (λ k h. ap is_line_feed (at k (omega arith) ∙ get_or_append_left line (10 ∷ rest) 0 k h) ∙ none-each is_line_feed line whole k h)
 
 -- what stands next, once its line was given
-next_by_line : (state : State) (line rest bytes : List ℕ) (given : ℕ) → bytes ≡ (line ++ 10 ∷ []) ++ rest → length line < 257 → position is_line_feed line ≡ None → given + length line + 1 ≤ longest_session
+next_by_line : (state : State) (line rest bytes : List ℕ) (given : ℕ) → bytes ≡ (line ++ 10 ∷ []) ++ rest → length line ≤ longest_line → position is_line_feed line ≡ None → given + length line + 1 ≤ longest_session
     → next_in state (take (longest_session - given) bytes) ≡ by_word state (word_of line) (take (longest_session - (given + (length line + 1))) rest)
 next_by_line state line rest bytes given e short whole limit =
     let session = take (longest_session - given) bytes in
@@ -58,7 +58,7 @@ next_by_line state line rest bytes given e short whole limit =
     ∙ ap (by_word state (word_of line)) behind
 
 -- the same over an input
-next_is : (state : State) (old mid : Held) (line xs ys : List ℕ) → xs ≡ (line ++ 10 ∷ []) ++ ys → length line < 257 → position is_line_feed line ≡ None
+next_is : (state : State) (old mid : Buffered) (line xs ys : List ℕ) → xs ≡ (line ++ 10 ∷ []) ++ ys → length line ≤ longest_line → position is_line_feed line ≡ None
     → mid.given ≡ old.given + length line + 1 → mid.given ≤ longest_session
     → next_in state (in_session old xs) ≡ by_word state (word_of line) (in_session mid ys)
 next_is state old mid line xs ys e short whole given limit =
@@ -67,13 +67,13 @@ next_is state old mid line xs ys e short whole given limit =
     ∙ ap (λ n. by_word state (word_of line) (take (longest_session - n) ys)) behind
 
 -- a line that is no command here
-pub bad_word : (state : State) (old mid : Held) (before after : Option (List ℕ)) (line : List ℕ) (stop : Stop) (at : ℕ) → GivesLine old mid before after line → at ≡ old.given
-    → stop ≡ record { status = BadSession; at = at } → ((bytes : List ℕ) → by_word state (word_of line) bytes ≡ BadLine)
-    → IfSome (coming old before) (λ bytes. CommandStops stop.status stop.at state old bytes)
+pub bad_word : (state : State) (old mid : Buffered) (before after : Option (List ℕ)) (line : List ℕ) (stop : Stop) (at : ℕ) → GivesLine old mid before after line → at ≡ old.given
+    → stop ≡ stops.BadLine at → ((bytes : List ℕ) → by_word state (word_of line) bytes ≡ BadLine)
+    → IfSome (coming old before) (λ bytes. CommandStops stop state old bytes)
 bad_word state old mid None after line stop at gives here is bad = tt
 bad_word state old mid (Some xs) None line stop at gives here is bad = absurd gives.taken
 bad_word state old mid (Some xs) (Some ys) line stop at gives here is bad =
-    subst (λ (s : Stop). CommandStops s.status s.at state old (old.ahead ++ xs)) (sym is)
+    subst (λ (s : Stop). CommandStops s state old (old.ahead ++ xs)) (sym is)
     (here, next_is state old mid line _ _ gives.taken gives.short gives.whole gives.given gives.limit ∙ bad _)
 
 short_of : (word : Word) (bytes : List ℕ) → length bytes < body_length word → with_body word bytes ≡ Short
@@ -86,32 +86,28 @@ line_size : (line xs ys : List ℕ) → xs ≡ (line ++ 10 ∷ []) ++ ys → len
 line_size line xs ys e = ap length e ∙ length-append (line ++ 10 ∷ []) ys ∙ ap (λ n. n + length ys) (length-append line (10 ∷ []))
 
 -- a document that does not stand whole behind its line
-pub no_body : (state : State) (old mid : Held) (before after : Option (List ℕ)) (line : List ℕ) (word : Word) (status : Status) (at len : ℕ) → GivesLine old mid before after line
-    → ((bytes : List ℕ) → by_word state (word_of line) bytes ≡ with_body word bytes) → len ≡ body_length word → BodyStops status at len mid after
-    → IfSome (coming old before) (λ bytes. CommandStops status at state old bytes)
-no_body state old mid None after line word status at len gives by is stops = tt
-no_body state old mid (Some xs) None line word status at len gives by is stops = absurd gives.taken
-no_body state old mid (Some xs) (Some ys) line word Cut at len gives by is stops =
+pub no_body : (state : State) (old mid : Buffered) (before after : Option (List ℕ)) (line : List ℕ) (word : Word) (stop : Stop) (len : ℕ) → GivesLine old mid before after line
+    → ((bytes : List ℕ) → by_word state (word_of line) bytes ≡ with_body word bytes) → len ≡ body_length word → BodyStops stop len mid after
+    → IfSome (coming old before) (λ bytes. CommandStops stop state old bytes)
+no_body state old mid None after line word stop len gives by is why = tt
+no_body state old mid (Some xs) None line word stop len gives by is why = absurd gives.taken
+no_body state old mid (Some xs) (Some ys) line word stops.Cut len gives by is why =
     let size = line_size line (old.ahead ++ xs) (mid.ahead ++ ys) gives.taken in (
-      next_is state old mid line _ _ gives.taken gives.short gives.whole gives.given gives.limit ∙ by _ ∙ short_of word (in_session mid (mid.ahead ++ ys)) (omega (arith, stops.1.0)),
-      omega (arith, stops.1.1, gives.given),
+      next_is state old mid line _ _ gives.taken gives.short gives.whole gives.given gives.limit ∙ by _ ∙ short_of word (in_session mid (mid.ahead ++ ys)) (omega (arith, why.0)),
+      omega (arith, why.1, gives.given),
     )
-no_body state old mid (Some xs) (Some ys) line word TooMuch at len gives by is stops =
+no_body state old mid (Some xs) (Some ys) line word stops.TooMuch len gives by is why =
     let size = line_size line (old.ahead ++ xs) (mid.ahead ++ ys) gives.taken in (
-      next_is state old mid line _ _ gives.taken gives.short gives.whole gives.given gives.limit ∙ by _ ∙ short_of word (in_session mid (mid.ahead ++ ys)) (omega (arith, stops.1.0)),
-      omega (arith, stops.1.1, gives.given),
+      next_is state old mid line _ _ gives.taken gives.short gives.whole gives.given gives.limit ∙ by _ ∙ short_of word (in_session mid (mid.ahead ++ ys)) (omega (arith, why.0)),
+      omega (arith, why.1, gives.given),
     )
-no_body state old mid (Some xs) (Some ys) line word ReadFault at len gives by is stops = tt
-no_body state old mid (Some xs) (Some ys) line word NoMemory at len gives by is stops = tt
-no_body state old mid (Some xs) (Some ys) line word BadSession at len gives by is stops = absurd stops
-no_body state old mid (Some xs) (Some ys) line word Done at len gives by is stops = absurd stops
-no_body state old mid (Some xs) (Some ys) line word Refused at len gives by is stops = absurd stops
-no_body state old mid (Some xs) (Some ys) line word Usage at len gives by is stops = absurd stops
-no_body state old mid (Some xs) (Some ys) line word WriteFault at len gives by is stops = absurd stops
-no_body state old mid (Some xs) (Some ys) line word DoorFault at len gives by is stops = absurd stops
+no_body state old mid (Some xs) (Some ys) line word stops.ReadFault len gives by is why = tt
+no_body state old mid (Some xs) (Some ys) line word stops.NoMemory len gives by is why = tt
+no_body state old mid (Some xs) (Some ys) line word (stops.BadLine at) len gives by is why = absurd why
+no_body state old mid (Some xs) (Some ys) line word stops.WriteFault len gives by is why = absurd why
 
 -- a whole command
-pub takes_command : (state : State) (old mid new : Held) (before between after : Option (List ℕ)) (line body : List ℕ) (word : Word) (len : ℕ) → GivesLine old mid before between line
+pub takes_command : (state : State) (old mid new : Buffered) (before between after : Option (List ℕ)) (line body : List ℕ) (word : Word) (len : ℕ) → GivesLine old mid before between line
     → ((bytes : List ℕ) → by_word state (word_of line) bytes ≡ with_body word bytes) → len ≡ body_length word → GivesBody mid new between after len body
     → IfSome (coming old before) (λ bytes. TakesCommand state old new bytes after word body)
 takes_command state old mid new None between after line body word len gives by is whole = tt
@@ -138,5 +134,5 @@ takes_command state old mid new (Some xs) (Some ys) (Some zs) line body word len
           ∙ ap (λ l. Command word l (drop (body_length word) session)) front ∙ ap (Command word body) left;
     }
 
-pub same_line : (old mid : Held) (before after : Option (List ℕ)) (seen line : List ℕ) → seen ≡ line → GivesLine old mid before after line → GivesLine old mid before after seen
+pub same_line : (old mid : Buffered) (before after : Option (List ℕ)) (seen line : List ℕ) → seen ≡ line → GivesLine old mid before after line → GivesLine old mid before after seen
 same_line old mid before after seen line e gives = subst (GivesLine old mid before after) (sym e) gives

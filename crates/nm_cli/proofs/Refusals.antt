@@ -7,12 +7,14 @@ use Rattle.std.proofs.lemmas.Map.Views.{Contains-from_any, list_any-from_Contain
 use Rattle.std.specs.Cmp.{IsEquivalence}
 use Rattle.std.specs.List.{list_any}
 use Rattle.nm_base.specs.declared.outcome.Limit.TheVariants.{L4, L6}
+use Rattle.nm_terms.specs.Due.{RefusalIsDue}
 use Rattle.nm_ident.proofs.Rising.{same_answers}
 use Rattle.nm_model.specs.declared.document.Difference.{Difference}
 use Rattle.nm_model.specs.declared.document.Full.{Full}
 use Rattle.nm_cli.specs.Filed.{kept_of, entries_of, entry_of}
 use Rattle.nm_cli.specs.Kept.{Entry, Kept, number_of, size_of}
-use Rattle.nm_cli.specs.Refusal.{has_id, is_in_use, room_refusal, refusal_of, first_refusal, step_refusal, live_with, IsDue}
+use Rattle.nm_cli.specs.Limits.{most_steps, largest_store}
+use Rattle.nm_cli.specs.Refusal.{has_id, is_in_use, room_refusal, refusal_of, first_refusal, step_refusal, live_with, wants_memory}
 use Rattle.nm_cli.specs.Replay.{first_break, steps_of}
 use Rattle.nm_cli.specs.declared.refusal.Break.{Break}
 use Rattle.nm_cli.specs.declared.refusal.Refusal.{Refusal}
@@ -43,35 +45,35 @@ list_any-map test view (y ∷ ys) = ap (λ b. test (view y) || b) (list_any-map 
 
 -- ---- the refusal that is due
 
-pub due_is : (due : Option Refusal) (given : Refusal) → due ≡ Some given → IsDue due given
+pub due_is : (due : Option Refusal) (given : Refusal) → due ≡ Some given → RefusalIsDue wants_memory given due
 due_is due refusal.NoMemory e = tt
 due_is due refusal.Kind e = e
 due_is due (refusal.InUse id) e = e
 due_is due (refusal.Limit limit) e = e
 due_is due (refusal.Step found) e = e
 
-pub room-by_tests : (kept : Kept) (id size : ℕ) (used full large : Bool) → is_in_use kept id ≡ used → nat_le 4096 (length kept.live) ≡ full
-    → nat_lt 268435456 (size_of kept + size) ≡ large
+pub room-by_tests : (kept : Kept) (id size : ℕ) (used full large : Bool) → is_in_use kept id ≡ used → nat_le most_steps (length kept.live) ≡ full
+    → nat_lt largest_store (size_of kept + size) ≡ large
     → room_refusal kept id size ≡ (if used then Some (refusal.InUse id) else if full then Some (refusal.Limit L4) else if large then Some (refusal.Limit L6) else None)
 unfolding room_refusal
 room-by_tests kept id size used full large u f l =
     λ i. if u i then Some (refusal.InUse id) else if f i then Some (refusal.Limit L4) else if l i then Some (refusal.Limit L6) else None
 
 -- what no refusal for room leaves
-pub room-left : (kept : Kept) (id size : ℕ) → None ≡ room_refusal kept id size → (length kept.live < 4096) × (size_of kept + size ≤ 268435456)
+pub room-left : (kept : Kept) (id size : ℕ) → None ≡ room_refusal kept id size → (length kept.live < most_steps) × (size_of kept + size ≤ largest_store)
 room-left kept id size none =
-    by (is_in_use kept id) (nat_le 4096 (length kept.live)) (nat_lt 268435456 (size_of kept + size)) refl refl
-    (none ∙ room-by_tests kept id size (is_in_use kept id) (nat_le 4096 (length kept.live)) (nat_lt 268435456 (size_of kept + size)) refl refl refl)
+    by (is_in_use kept id) (nat_le most_steps (length kept.live)) (nat_lt largest_store (size_of kept + size)) refl refl
+    (none ∙ room-by_tests kept id size (is_in_use kept id) (nat_le most_steps (length kept.live)) (nat_lt largest_store (size_of kept + size)) refl refl refl)
   where
-    not_full : (n : ℕ) → nat_le 4096 n ≡ false → n < 4096
+    not_full : (n : ℕ) → nat_le most_steps n ≡ false → n < most_steps
     not_full n h = grind (arith, nat_tests)
 
-    not_large : (n : ℕ) → nat_lt 268435456 n ≡ false → n ≤ 268435456
+    not_large : (n : ℕ) → nat_lt largest_store n ≡ false → n ≤ largest_store
     not_large n h = grind (arith, nat_tests)
 
-    by : (used full large : Bool) → nat_le 4096 (length kept.live) ≡ full → nat_lt 268435456 (size_of kept + size) ≡ large
+    by : (used full large : Bool) → nat_le most_steps (length kept.live) ≡ full → nat_lt largest_store (size_of kept + size) ≡ large
         → None ≡ (if used then Some (refusal.InUse id) else if full then Some (refusal.Limit L4) else if large then Some (refusal.Limit L6) else None)
-        → (length kept.live < 4096) × (size_of kept + size ≤ 268435456)
+        → (length kept.live < most_steps) × (size_of kept + size ≤ largest_store)
     by true full large f l e = absurd (let wrong = e in cc)
     by false true large f l e = absurd (let wrong = e in cc)
     by false false true f l e = absurd (let wrong = e in cc)

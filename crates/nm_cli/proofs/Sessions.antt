@@ -10,31 +10,34 @@ use Rattle.nm_base.specs.declared.outcome.Status.{Status}
 use Rattle.nm_base.specs.declared.outcome.Status.TheVariants.{Done, Refused, Usage, ReadFault, WriteFault, NoMemory, BadSession, Cut, TooMuch, DoorFault}
 use Rattle.nm_cli.specs.Answered.{AppendsPrefix, is_ending, AnswersStream, AnswersUnlessFaults, HasCause}
 use Rattle.nm_cli.specs.Turns.{is_end, TakesCommand, TakesTurn, TurnStops, NamesBadLine, EndsWith}
-use Rattle.nm_cli.specs.Held.{Held}
+use Rattle.nm_cli.specs.Buffered.{Buffered}
 use Rattle.nm_cli.specs.Input.{coming, in_session}
+use Rattle.nm_cli.specs.Limits.{longest_session}
 use Rattle.nm_cli.specs.Reply.{numbered}
-use Rattle.nm_cli.specs.Stream.{Next, next_in, Outcome, behind_reply, behind_command, offset_behind, bad_line, short, outcome_of, outcome_within, longest_session, short_ending, outcome}
+use Rattle.nm_cli.specs.Stops.{status_of}
+use Rattle.nm_cli.specs.Stream.{Next, next_in, Outcome, behind_reply, behind_command, offset_behind, bad_line, short, outcome_of, outcome_within, short_ending, outcome}
 use Rattle.nm_cli.specs.Turn.{Turn, turn_of}
 use Rattle.nm_cli.specs.declared.turn.State.{State}
 use Rattle.nm_cli.specs.declared.turn.State.TheVariants.{Empty}
 use Rattle.nm_cli.specs.declared.stop.Stop.{Stop}
+use Rattle.nm_cli.specs.declared.stop.Stop.TheVariants as stops
 use Rattle.nm_cli.specs.declared.word.Word.{Word}
 use Rattle.nm_cli.specs.declared.word.Word.TheVariants.{Base, File, Assemble, Summary, End}
 
 -- in between two commands: the replies so far, and then what comes of the rest, are the whole outcome
-pub record Standing (stream : List ℕ) (held : Held) (left : Option (List ℕ)) (state : State) (written now : Option (List ℕ)) : Type 0 where
+pub record Standing (stream : List ℕ) (buffered : Buffered) (left : Option (List ℕ)) (state : State) (written now : Option (List ℕ)) : Type 0 where
   pub bytes : List ℕ
-  pub known : coming held left ≡ Some bytes
-  pub size : held.given + length bytes ≡ length stream
+  pub known : coming buffered left ≡ Some bytes
+  pub size : buffered.given + length bytes ≡ length stream
   pub replies : List ℕ
   pub appended : Appends written now replies
   pub turns : ℕ
-  pub enough : length (in_session held bytes) ≤ turns
-  pub whole : outcome stream ≡ behind_reply replies (outcome_within (suc turns) (short_ending stream) state held.given (in_session held bytes))
+  pub enough : length (in_session buffered bytes) ≤ turns
+  pub whole : outcome stream ≡ behind_reply replies (outcome_within (suc turns) (short_ending stream) state buffered.given (in_session buffered bytes))
 
-pub stands_first : (held : Held) (left written : Option (List ℕ)) → held ≡ record { ahead = []; given = 0 } → IfSome left (λ stream. Standing stream held left Empty written written)
-stands_first held None written e = tt
-stands_first held (Some stream) written e =
+pub stands_first : (buffered : Buffered) (left written : Option (List ℕ)) → buffered ≡ record { ahead = []; given = 0 } → IfSome left (λ stream. Standing stream buffered left Empty written written)
+stands_first buffered None written e = tt
+stands_first buffered (Some stream) written e =
     let first : Standing stream (record { ahead = []; given = 0 }) (Some stream) Empty written written = record {
       bytes = stream;
       known = refl;
@@ -45,7 +48,7 @@ stands_first held (Some stream) written e =
       enough = omega arith;
       whole = refl;
     } in
-    subst (λ (h : Held). Standing stream h (Some stream) Empty written written) (sym e) first
+    subst (λ (h : Buffered). Standing stream h (Some stream) Empty written written) (sym e) first
 
 -- what comes of a rest, by what stands next
 unfolded : (turns : ℕ) (on_short : Status) (state : State) (at : ℕ) (bytes : List ℕ) (next : Next) → next_in state bytes ≡ next
@@ -73,18 +76,18 @@ is_over End turn others e = refl
 -- ---- the next turn
 
 -- the rest behind a command, as the session may take it
-record Behind (old new : Held) (bytes rest : List ℕ) : Type 0 where
+record Behind (old new : Buffered) (bytes rest : List ℕ) : Type 0 where
   offset : offset_behind old.given (in_session old bytes) (in_session new rest) ≡ new.given
   shorter : length (in_session new rest) < length (in_session old bytes)
 
-behind : (old new : Held) (bytes rest : List ℕ) → old.given + length bytes ≡ new.given + length rest → old.given < new.given → new.given ≤ longest_session → Behind old new bytes rest
+behind : (old new : Buffered) (bytes rest : List ℕ) → old.given + length bytes ≡ new.given + length rest → old.given < new.given → new.given ≤ longest_session → Behind old new bytes rest
 behind old new bytes rest size more limit = record {
   offset = omega (arith, length-take (longest_session - old.given) bytes, length-take (longest_session - new.given) rest);
   shorter = omega (arith, length-take (longest_session - old.given) bytes, length-take (longest_session - new.given) rest);
 }
 
 -- a turn that was not the last
-stands_after : (stream : List ℕ) (old new : Held) (left : Option (List ℕ)) (before after : State) (written mid now : Option (List ℕ)) (bytes replies : List ℕ) (turns : ℕ)
+stands_after : (stream : List ℕ) (old new : Buffered) (left : Option (List ℕ)) (before after : State) (written mid now : Option (List ℕ)) (bytes replies : List ℕ) (turns : ℕ)
     → old.given + length bytes ≡ length stream → Appends written mid replies → length (in_session old bytes) ≤ turns
     → outcome stream ≡ behind_reply replies (outcome_within (suc turns) (short_ending stream) before old.given (in_session old bytes))
     → TakesTurn before after old new bytes left mid now false → old.given < new.given → new.given ≤ longest_session
@@ -116,7 +119,7 @@ stands_after stream old new left before after written mid now bytes replies (suc
 at_known : {known : Option (List ℕ)} {bytes : List ℕ} (P : List ℕ → Type 0) → known ≡ Some bytes → IfSome known P → P bytes
 at_known P e h = subst (λ o. IfSome o P) e h
 
-pub stands_next : (stream : List ℕ) (old new : Held) (left rest : Option (List ℕ)) (before after : State) (written mid now : Option (List ℕ)) (is_last : Bool) → is_last ≡ false
+pub stands_next : (stream : List ℕ) (old new : Buffered) (left rest : Option (List ℕ)) (before after : State) (written mid now : Option (List ℕ)) (is_last : Bool) → is_last ≡ false
     → Standing stream old left before written mid
     → IfSome (coming old left) (λ bytes. TakesTurn before after old new bytes rest mid now is_last) → old.given < new.given → new.given ≤ longest_session
     → Standing stream new rest after written now
@@ -165,7 +168,7 @@ front_of_reply (Assemble day) turn others n h = take-append-le n turn.reply othe
 front_of_reply (Summary day) turn others n h = take-append-le n turn.reply others.replies h
 front_of_reply End turn others n h = refl
 
-pub is_done : (stream : List ℕ) (old new : Held) (left rest : Option (List ℕ)) (before after : State) (written mid now : Option (List ℕ)) (is_last : Bool) → is_last ≡ true
+pub is_done : (stream : List ℕ) (old new : Buffered) (left rest : Option (List ℕ)) (before after : State) (written mid now : Option (List ℕ)) (is_last : Bool) → is_last ≡ true
     → Standing stream old left before written mid
     → IfSome (coming old left) (λ bytes. TakesTurn before after old new bytes rest mid now is_last)
     → AnswersStream stream Done written now
@@ -214,47 +217,43 @@ ends_early stream stopped status written mid between now replies others e no_end
     part_answer stream status written mid now replies others e appended (subst (λ o. AppendsPrefix mid o others.replies) (sym as_stopped.1) more) (ap is_ending as_stopped.0 ∙ no_ending)
 
 -- the same, by the stop of a turn
-ends_at : (stream : List ℕ) (held : Held) (left : Option (List ℕ)) (state : State) (stopped : Status) (at : ℕ) (status : Status) (written mid between now : Option (List ℕ)) (before after : ℕ)
-    → (stands : Standing stream held left state written mid) → TurnStops stopped at state held stands.bytes mid between → EndsWith stopped at status between now before after
+ends_at : (stream : List ℕ) (buffered : Buffered) (left : Option (List ℕ)) (state : State) (stopped : Stop) (status : Status) (written mid between now : Option (List ℕ)) (before after : ℕ)
+    → (stands : Standing stream buffered left state written mid) → TurnStops stopped state buffered stands.bytes mid between → EndsWith stopped status between now before after
     → AnswersStream stream status written now
-ends_at stream held left state BadSession at status written mid between now before after stands stops ends =
+ends_at stream buffered left state (stops.BadLine at) status written mid between now before after stands why ends =
     ends_bad stream status written mid between now stands.replies at before after
     (stands.whole ∙ ap (behind_reply stands.replies)
-    (unfolded stands.turns (short_ending stream) state held.given (in_session held stands.bytes) _ stops.0.1 ∙ ap bad_line (sym stops.0.0)))
-    stands.appended stops.1 ends
-ends_at stream held left state Cut at status written mid between now before after stands stops ends =
+    (unfolded stands.turns (short_ending stream) state buffered.given (in_session buffered stands.bytes) _ why.0.1 ∙ ap bad_line (sym why.0.0)))
+    stands.appended why.1 ends
+ends_at stream buffered left state stops.Cut status written mid between now before after stands why ends =
     ends_short stream Cut status written mid between now stands.replies
-    (stands.whole ∙ ap (behind_reply stands.replies) (unfolded stands.turns (short_ending stream) state held.given (in_session held stands.bytes) _ stops.0.0))
-    (ap (λ b. cond b Cut TooMuch) (lt-ltb (length stream) longest_session (omega (arith, stands.size, stops.0.1))))
-    stands.appended stops.1 ends
-ends_at stream held left state TooMuch at status written mid between now before after stands stops ends =
+    (stands.whole ∙ ap (behind_reply stands.replies) (unfolded stands.turns (short_ending stream) state buffered.given (in_session buffered stands.bytes) _ why.0.0))
+    (ap (λ b. cond b Cut TooMuch) (lt-ltb (length stream) longest_session (omega (arith, stands.size, why.0.1))))
+    stands.appended why.1 ends
+ends_at stream buffered left state stops.TooMuch status written mid between now before after stands why ends =
     ends_short stream TooMuch status written mid between now stands.replies
-    (stands.whole ∙ ap (behind_reply stands.replies) (unfolded stands.turns (short_ending stream) state held.given (in_session held stands.bytes) _ stops.0.0))
-    (ap (λ b. cond b Cut TooMuch) (le-ltb (length stream) longest_session (omega (arith, stands.size, stops.0.1))))
-    stands.appended stops.1 ends
-ends_at stream held left state WriteFault at status written mid between now before after stands stops ends =
-    let turn = turn_of state stops.word stops.body in
-    let others = outcome_within stands.turns (short_ending stream) turn.state (offset_behind held.given (in_session held stands.bytes) stops.rest) stops.rest in
-    let few : stops.front.0 ≤ length turn.reply = omega (arith, stops.front.1) in
-    ends_early stream WriteFault status written mid between now stands.replies (behind_command stops.word turn others)
-    (stands.whole ∙ ap (behind_reply stands.replies) (unfolded stands.turns (short_ending stream) state held.given (in_session held stands.bytes) _ stops.next))
+    (stands.whole ∙ ap (behind_reply stands.replies) (unfolded stands.turns (short_ending stream) state buffered.given (in_session buffered stands.bytes) _ why.0.0))
+    (ap (λ b. cond b Cut TooMuch) (le-ltb (length stream) longest_session (omega (arith, stands.size, why.0.1))))
+    stands.appended why.1 ends
+ends_at stream buffered left state stops.WriteFault status written mid between now before after stands why ends =
+    let turn = turn_of state why.word why.body in
+    let others = outcome_within stands.turns (short_ending stream) turn.state (offset_behind buffered.given (in_session buffered stands.bytes) why.rest) why.rest in
+    let few : why.front.0 ≤ length turn.reply = omega (arith, why.front.1) in
+    ends_early stream WriteFault status written mid between now stands.replies (behind_command why.word turn others)
+    (stands.whole ∙ ap (behind_reply stands.replies) (unfolded stands.turns (short_ending stream) state buffered.given (in_session buffered stands.bytes) _ why.next))
     refl stands.appended
-    (stops.front.0, subst (Appends mid between) (sym (front_of_reply stops.word turn others stops.front.0 few)) stops.front.2)
+    (why.front.0, subst (Appends mid between) (sym (front_of_reply why.word turn others why.front.0 few)) why.front.2)
     ends
-ends_at stream held left state ReadFault at status written mid between now before after stands stops ends =
-    ends_early stream ReadFault status written mid between now stands.replies _ stands.whole refl stands.appended (nothing_more mid between _ stops) ends
-ends_at stream held left state NoMemory at status written mid between now before after stands stops ends =
-    ends_early stream NoMemory status written mid between now stands.replies _ stands.whole refl stands.appended (nothing_more mid between _ stops) ends
-ends_at stream held left state Done at status written mid between now before after stands stops ends = absurd stops
-ends_at stream held left state Refused at status written mid between now before after stands stops ends = absurd stops
-ends_at stream held left state Usage at status written mid between now before after stands stops ends = absurd stops
-ends_at stream held left state DoorFault at status written mid between now before after stands stops ends = absurd stops
+ends_at stream buffered left state stops.ReadFault status written mid between now before after stands why ends =
+    ends_early stream ReadFault status written mid between now stands.replies _ stands.whole refl stands.appended (nothing_more mid between _ why) ends
+ends_at stream buffered left state stops.NoMemory status written mid between now before after stands why ends =
+    ends_early stream NoMemory status written mid between now stands.replies _ stands.whole refl stands.appended (nothing_more mid between _ why) ends
 
-pub ends_stopped : (stream : List ℕ) (held : Held) (left : Option (List ℕ)) (state : State) (stopped : Status) (at : ℕ) (status : Status) (written mid between now : Option (List ℕ)) (before after : ℕ)
-    → Standing stream held left state written mid → IfSome (coming held left) (λ bytes. TurnStops stopped at state held bytes mid between) → EndsWith stopped at status between now before after
+pub ends_stopped : (stream : List ℕ) (buffered : Buffered) (left : Option (List ℕ)) (state : State) (stopped : Stop) (status : Status) (written mid between now : Option (List ℕ)) (before after : ℕ)
+    → Standing stream buffered left state written mid → IfSome (coming buffered left) (λ bytes. TurnStops stopped state buffered bytes mid between) → EndsWith stopped status between now before after
     → AnswersStream stream status written now
-ends_stopped stream held left state stopped at status written mid between now before after stands stops ends =
-    ends_at stream held left state stopped at status written mid between now before after stands (at_known (λ bytes. TurnStops stopped at state held bytes mid between) stands.known stops) ends
+ends_stopped stream buffered left state stopped status written mid between now before after stands why ends =
+    ends_at stream buffered left state stopped status written mid between now before after stands (at_known (λ bytes. TurnStops stopped state buffered bytes mid between) stands.known why) ends
 
 -- ---- causes
 
@@ -285,19 +284,15 @@ bad_line_cause TooMuch at written now a b c d e k named = absurd named
 bad_line_cause DoorFault at written now a b c d e k named = absurd named
 
 -- the cause of the stop is that of the status
-pub ended_cause : (stopped : Status) (at : ℕ) (status : Status) (written now : Option (List ℕ)) (read_first read_before read_after write_first write_before write_between write_after : ℕ)
-    → HasCause stopped read_before read_after write_before write_between → read_first ≤ read_before → write_first ≤ write_before → write_before ≤ write_between → write_between ≤ write_after
-    → EndsWith stopped at status written now write_between write_after → HasCause status read_first read_after write_first write_after
-ended_cause BadSession at status written now a b c d e f g h r w u k ends = bad_line_cause status at written now a c d f g (omega arith) ends
-ended_cause ReadFault at status written now a b c d e f g h r w u k ends = subst (λ s. HasCause s a c d g) (sym ends.0) (cause_from ReadFault a b c d e f g h r w k)
-ended_cause WriteFault at status written now a b c d e f g h r w u k ends = subst (λ s. HasCause s a c d g) (sym ends.0) (cause_from WriteFault a b c d e f g h r w k)
-ended_cause Done at status written now a b c d e f g h r w u k ends = subst (λ s. HasCause s a c d g) (sym ends.0) tt
-ended_cause NoMemory at status written now a b c d e f g h r w u k ends = subst (λ s. HasCause s a c d g) (sym ends.0) tt
-ended_cause Cut at status written now a b c d e f g h r w u k ends = subst (λ s. HasCause s a c d g) (sym ends.0) tt
-ended_cause TooMuch at status written now a b c d e f g h r w u k ends = subst (λ s. HasCause s a c d g) (sym ends.0) tt
-ended_cause Refused at status written now a b c d e f g h r w u k ends = absurd h
-ended_cause Usage at status written now a b c d e f g h r w u k ends = absurd h
-ended_cause DoorFault at status written now a b c d e f g h r w u k ends = absurd h
+pub ended_cause : (stopped : Stop) (status : Status) (written now : Option (List ℕ)) (read_first read_before read_after write_first write_before write_between write_after : ℕ)
+    → HasCause (status_of stopped) read_before read_after write_before write_between → read_first ≤ read_before → write_first ≤ write_before → write_before ≤ write_between → write_between ≤ write_after
+    → EndsWith stopped status written now write_between write_after → HasCause status read_first read_after write_first write_after
+ended_cause (stops.BadLine at) status written now a b c d e f g h r w u k ends = bad_line_cause status at written now a c d f g (omega arith) ends
+ended_cause stops.ReadFault status written now a b c d e f g h r w u k ends = subst (λ s. HasCause s a c d g) (sym ends.0) (cause_from ReadFault a b c d e f g h r w k)
+ended_cause stops.WriteFault status written now a b c d e f g h r w u k ends = subst (λ s. HasCause s a c d g) (sym ends.0) (cause_from WriteFault a b c d e f g h r w k)
+ended_cause stops.NoMemory status written now a b c d e f g h r w u k ends = subst (λ s. HasCause s a c d g) (sym ends.0) tt
+ended_cause stops.Cut status written now a b c d e f g h r w u k ends = subst (λ s. HasCause s a c d g) (sym ends.0) tt
+ended_cause stops.TooMuch status written now a b c d e f g h r w u k ends = subst (λ s. HasCause s a c d g) (sym ends.0) tt
 
 -- without a fault that is told, the status is an ending or want of memory
 pub is_complete : (stream : List ℕ) (status : Status) (written now : Option (List ℕ)) (read_before read_after write_before write_after : ℕ) → HasCause status read_before read_after write_before write_after
@@ -315,11 +310,11 @@ is_complete stream DoorFault written now a b c d h answers no_read no_write = ab
 
 -- ---- a reply that was not written whole
 
-pub breaks_reply : (state : State) (old new : Held) (before after : Option (List ℕ)) (word : Word) (body seen reply : List ℕ) (stop : Stop) (written now : Option (List ℕ))
+pub breaks_reply : (state : State) (old new : Buffered) (before after : Option (List ℕ)) (word : Word) (body seen reply : List ℕ) (stop : Stop) (written now : Option (List ℕ))
     → IfSome (coming old before) (λ bytes. TakesCommand state old new bytes after word body) → seen ≡ reply → reply ≡ (turn_of state word body).reply
-    → stop.status ≡ WriteFault → AppendsFront written now seen
-    → IfSome (coming old before) (λ bytes. TurnStops stop.status stop.at state old bytes written now)
-breaks_reply state old new None after word body seen reply stop written now taken same is status front = tt
-breaks_reply state old new (Some xs) after word body seen reply stop written now taken same is status front =
-    subst (λ s. TurnStops s stop.at state old (old.ahead ++ xs) written now) (sym status)
+    → stop ≡ stops.WriteFault → AppendsFront written now seen
+    → IfSome (coming old before) (λ bytes. TurnStops stop state old bytes written now)
+breaks_reply state old new None after word body seen reply stop written now taken same is fault front = tt
+breaks_reply state old new (Some xs) after word body seen reply stop written now taken same is fault front =
+    subst (λ (s : Stop). TurnStops s state old (old.ahead ++ xs) written now) (sym fault)
     (record { word = word; body = body; rest = in_session new taken.rest; next = taken.next; front = subst (AppendsFront written now) (same ∙ is) front })

@@ -2,6 +2,7 @@
 use Rattle.std.specs.Prelude.{◌≡◌, ℕ, ◌≤◌, List, length, map}
 use Rattle.nm_model.specs.declared.document.Full.{Full}
 use Rattle.nm_cli.specs.Kept.{Entry, Kept, IsFiledFrom, size_of}
+use Rattle.nm_cli.specs.Limits.{most_steps, largest_store}
 use Rattle.nm_cli.specs.declared.project.Project.{Project}
 use Rattle.nm_cli.specs.declared.store.Filed.{Filed}
 
@@ -20,6 +21,6 @@ kept_of base bytes filed = record { base = base; bytes = bytes; live = projects_
 -- the projects are numbered from 1, within the limits of projects and of bytes
 pub record IsWithin (base : Full) (bytes : List ℕ) (filed : List Filed) (size : ℕ) : Type 0 where
   pub filings : IsFiledFrom 1 (projects_of filed)
-  pub few : length filed ≤ 4096
+  pub few : length filed ≤ most_steps
   pub sized : size ≡ size_of (kept_of base bytes filed)
-  pub fits : size ≤ 268435456
+  pub fits : size ≤ largest_store

@@ -1,3 +1,4 @@
+pub mod Limits
 pub mod Digits
 pub mod Day
 pub mod Word
@@ -10,7 +11,8 @@ pub mod Reply
 pub mod Turn
 pub mod ExamplesOfStore
 pub mod Stream
-pub mod Held
+pub mod Stops
+pub mod Buffered
 pub mod Input
 pub mod Turns
 pub mod Answered

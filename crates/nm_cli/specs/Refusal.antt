@@ -1,10 +1,11 @@
 -- When a command is refused, and what the store keeps after it.
-use Rattle.std.specs.Prelude.{◌≡◌, ℕ, ◌+◌, List, [], ◌∷◌, ◌++◌, length, Bool, ◌||◌, ◌==◌, nat_lt, nat_le, Option, None, Some, if◌then◌else◌}
+use Rattle.std.specs.Prelude.{ℕ, ◌+◌, List, [], ◌∷◌, ◌++◌, length, Bool, true, false, ◌||◌, ◌==◌, nat_lt, nat_le, Option, None, Some, if◌then◌else◌}
 use Rattle.std.specs.List.{list_any}
 use Rattle.nm_base.specs.declared.outcome.Limit.TheVariants.{L4, L6}
 use Rattle.nm_model.specs.Header.{dependencies_of}
 use Rattle.nm_model.specs.declared.document.Difference.{Difference}
 use Rattle.nm_cli.specs.Kept.{Kept, number_of, size_of}
+use Rattle.nm_cli.specs.Limits.{most_steps, largest_store}
 use Rattle.nm_cli.specs.Replay.{steps_of, first_break}
 use Rattle.nm_cli.specs.declared.project.Project.{Project}
 use Rattle.nm_cli.specs.declared.refusal.Break.{Break}
@@ -40,8 +41,8 @@ step_refusal (Some found) = Some (refusal.Step found)
 unfoldable pub room_refusal : Kept → ℕ → ℕ → Option Refusal
 room_refusal kept id size =
     if is_in_use kept id then Some (refusal.InUse id)
-    else if nat_le 4096 (length kept.live) then Some (refusal.Limit L4)
-    else if nat_lt 268435456 (size_of kept + size) then Some (refusal.Limit L6)
+    else if nat_le most_steps (length kept.live) then Some (refusal.Limit L4)
+    else if nat_lt largest_store (size_of kept + size) then Some (refusal.Limit L6)
     else None
 
 abbrev pub first_refusal : Option Refusal → Option Refusal → Option Refusal
@@ -54,13 +55,13 @@ refusal_of kept day difference bytes =
     first_refusal (room_refusal kept difference.header.id (length bytes))
     (step_refusal (first_break kept.base.statements (steps_of (live_with kept day difference))))
 
--- a refusal is the one that is due; want of memory says nothing
-abbrev pub IsDue : Option Refusal → Refusal → Type 0
-IsDue due refusal.NoMemory = Unit {0}
-IsDue due refusal.Kind = due ≡ Some refusal.Kind
-IsDue due (refusal.InUse id) = due ≡ Some (refusal.InUse id)
-IsDue due (refusal.Limit limit) = due ≡ Some (refusal.Limit limit)
-IsDue due (refusal.Step found) = due ≡ Some (refusal.Step found)
+-- which refusals are want of memory
+abbrev pub wants_memory : Refusal → Bool
+wants_memory refusal.Kind = false
+wants_memory (refusal.InUse id) = false
+wants_memory (refusal.Limit limit) = false
+wants_memory (refusal.Step found) = false
+wants_memory refusal.NoMemory = true
 
 -- what is kept after an accepted filing
 abbrev pub filed : Kept → List ℕ → Difference → List ℕ → Kept

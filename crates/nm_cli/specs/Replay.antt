@@ -35,12 +35,12 @@ abbrev pub after_steps : List Statement → List Project → List Statement
 after_steps set [] = set
 after_steps set (step ∷ steps) = after_steps (changed set step.change) steps
 
-abbrev pub Cause : Type 0
-Cause = Part × Statement
+abbrev pub StatementCause : Type 0
+StatementCause = Part × Statement
 
 -- why a change does not fit a set, in order: preconditions and reverse statements that it lacks, forward
 -- statements that it has
-abbrev pub causes : List Statement → Change → List Cause
+abbrev pub causes : List Statement → Change → List StatementCause
 causes set change =
     map (λ statement. (Precondition, statement)) (filter (λ statement. not (has set statement)) change.pre)
     ++ map (λ statement. (Reverse, statement)) (filter (λ statement. not (has set statement)) change.rev)
@@ -50,14 +50,14 @@ abbrev pub first_of : {X : Type 0} → List X → Option X
 first_of [] = None
 first_of (x ∷ xs) = Some x
 
-unfoldable pub first_cause : List Statement → Change → Option Cause
+unfoldable pub first_cause : List Statement → Change → Option StatementCause
 first_cause set change = first_of (causes set change)
 
-abbrev pub break_at : Project → Cause → Break
+abbrev pub break_at : Project → StatementCause → Break
 break_at step cause = record { day = step.day; model = model_of step; part = cause.0; statement = cause.1 }
 
 -- the cause at this step, or else what the later steps give
-abbrev pub break_or : Project → Option Cause → Option Break → Option Break
+abbrev pub break_or : Project → Option StatementCause → Option Break → Option Break
 break_or step None later = later
 break_or step (Some cause) later = Some (break_at step cause)
 

@@ -2,7 +2,7 @@
 use Rattle.std.specs.Prelude.{ℕ, List, [], ◌∷◌, ◌++◌, length, codes}
 use Rattle.std.specs.Fmt.{decimal}
 use Rattle.nm_base.specs.declared.outcome.Limit.{Limit}
-use Rattle.nm_base.specs.declared.outcome.Limit.TheVariants.{L4, L5}
+use Rattle.nm_base.specs.declared.outcome.Limit.TheVariants.{L1, L2, L3, L4, L5, L6, L7, L8, L9, L10, L11, L12}
 use Rattle.nm_ident.specs.UuidText.{uuid_text}
 use Rattle.nm_statement.specs.Line.{line_of}
 use Rattle.nm_cli.specs.declared.refusal.Part.{Part}
@@ -28,9 +28,18 @@ summary_reply commits projects statements =
     ++ codes " statements " ++ decimal statements)
 
 abbrev pub limit_name : Limit → List ℕ
+limit_name L1 = codes "L1"
+limit_name L2 = codes "L2"
+limit_name L3 = codes "L3"
 limit_name L4 = codes "L4"
 limit_name L5 = codes "L5"
-limit_name _ = codes "L6"
+limit_name L6 = codes "L6"
+limit_name L7 = codes "L7"
+limit_name L8 = codes "L8"
+limit_name L9 = codes "L9"
+limit_name L10 = codes "L10"
+limit_name L11 = codes "L11"
+limit_name L12 = codes "L12"
 
 abbrev pub part_name : Part → List ℕ
 part_name Precondition = codes "precondition"

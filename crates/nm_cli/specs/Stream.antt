@@ -2,13 +2,14 @@
 use Rattle.std.specs.Prelude.{ℕ, zero, suc, ◌+◌, ◌-◌, List, [], ◌++◌, length, take, drop, Bool, Option, None, Some, ◌==◌, nat_le, nat_lt, codes, position, if◌then◌else◌}
 use Rattle.nm_base.specs.declared.outcome.Status.{Status}
 use Rattle.nm_base.specs.declared.outcome.Status.TheVariants.{Done, BadSession, Cut, TooMuch}
+use Rattle.nm_cli.specs.Limits.{longest_line, longest_session}
 use Rattle.nm_cli.specs.Reply.{numbered}
 use Rattle.nm_cli.specs.Turn.{allows, Turn, turn_of}
 use Rattle.nm_cli.specs.Word.{word_of, body_length}
 use Rattle.nm_cli.specs.declared.turn.State.{State}
 use Rattle.nm_cli.specs.declared.turn.State.TheVariants.{Empty}
 use Rattle.nm_cli.specs.declared.word.Word.{Word}
-use Rattle.nm_cli.specs.declared.word.Word.TheVariants.{End}
+use Rattle.nm_cli.specs.declared.word.Word.TheVariants.{Base, File, Assemble, Summary, End}
 
 -- what stands next in a stream: a whole command with its body and what comes behind it, a line that is
 -- no command, or less than either
@@ -28,16 +29,17 @@ abbrev pub by_word : State → Option Word → List ℕ → Next
 by_word state None bytes = BadLine
 by_word state (Some word) bytes = if allows state word then with_body word bytes else BadLine
 
--- a line ends among the next 257 bytes
+-- a line ends at this place, or at none where its line feed may stand
 abbrev pub by_line : State → Option ℕ → List ℕ → Next
-by_line state None bytes = if nat_lt (length bytes) 257 then Short else BadLine
+by_line state None bytes = if nat_le (length bytes) longest_line then Short else BadLine
 by_line state (Some place) bytes = by_word state (word_of (take place bytes)) (drop (place + 1) bytes)
 
 abbrev pub is_line_feed : ℕ → Bool
 is_line_feed byte = byte == 10
 
+-- where the next line ends: its line feed stands behind at most as many bytes as a line may have
 abbrev pub line_end : List ℕ → Option ℕ
-line_end bytes = position is_line_feed (take 257 bytes)
+line_end bytes = position is_line_feed (take (longest_line + 1) bytes)
 
 abbrev pub next_in : State → List ℕ → Next
 next_in state bytes = by_line state (line_end bytes) bytes
@@ -52,10 +54,13 @@ behind_reply reply outcome = record { replies = reply ++ outcome.replies; ending
 
 -- the rest of a session behind a command: nothing behind `end`
 abbrev pub behind_command : Word → Turn → Outcome → Outcome
+behind_command (Base len) turn others = behind_reply turn.reply others
+behind_command (File day len) turn others = behind_reply turn.reply others
+behind_command (Assemble day) turn others = behind_reply turn.reply others
+behind_command (Summary day) turn others = behind_reply turn.reply others
 behind_command End turn others = record { replies = turn.reply; ending = Done }
-behind_command _ turn others = behind_reply turn.reply others
 
--- the offset behind a command, of a rest that had so many bytes
+-- the offset behind a command: of the bytes that stood at this offset, `after` is what stands behind it
 abbrev pub offset_behind : ℕ → List ℕ → List ℕ → ℕ
 offset_behind at bytes after = at + (length bytes - length after)
 
@@ -79,10 +84,6 @@ unfoldable pub outcome_within : ℕ → Status → State → ℕ → List ℕ �
 outcome_within zero on_short state at bytes = short on_short
 outcome_within (suc turns) on_short state at bytes =
     outcome_of on_short (outcome_within turns on_short) state at bytes (next_in state bytes)
-
--- the most bytes that a session takes
-abbrev pub longest_session : ℕ
-longest_session = 4294967296
 
 -- a stream that ends without its last command is cut, unless the session takes no more bytes
 abbrev pub short_ending : List ℕ → Status

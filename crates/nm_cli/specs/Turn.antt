@@ -1,5 +1,5 @@
 -- One command of a session: its reply, and what the session stands in after it.
-use Rattle.std.specs.Prelude.{ℕ, ◌+◌, List, length, Bool, true, false, Option, None, Some, codes}
+use Rattle.std.specs.Prelude.{ℕ, ◌+◌, List, [], length, Bool, true, false, Option, None, Some, codes}
 use Rattle.nm_model.specs.declared.document.Difference.{Difference}
 use Rattle.nm_model.specs.declared.document.Document.{Document}
 use Rattle.nm_model.specs.declared.document.Document.TheVariants as document
@@ -64,14 +64,22 @@ with_project kept day bytes None = stays (Store kept) not_canonical_reply
 with_project kept day bytes (Some (document.Full full)) = stays (Store kept) (refused_reply refusal.Kind)
 with_project kept day bytes (Some (document.Difference difference)) = with_difference kept day difference bytes
 
+-- what is no command here has no reply: `allows` refuses it
+abbrev pub no_turn : State → Turn
+no_turn state = stays state []
+
 -- the reply to a command with its body, and the state after it
 abbrev pub turn_of : State → Word → List ℕ → Turn
 turn_of Empty (Base len) body = with_base body (canonical_model body)
-turn_of Empty _ body = stays Empty (numbered (codes "end") 0)
+turn_of Empty (File day len) body = no_turn Empty
+turn_of Empty (Assemble day) body = no_turn Empty
+turn_of Empty (Summary day) body = no_turn Empty
+turn_of Empty End body = stays Empty (numbered (codes "end") 0)
+turn_of (Store kept) (Base len) body = no_turn (Store kept)
 turn_of (Store kept) (File day len) body = with_project kept day body (canonical_model body)
 turn_of (Store kept) (Assemble day) body = stays (Store kept) (document_reply (canonical_full (assembly kept day)))
 turn_of (Store kept) (Summary day) body =
     stays (Store kept)
     (summary_reply (number_of kept) (length kept.live)
     (length (statements_at kept.base.statements kept.live day)))
-turn_of (Store kept) _ body = stays (Store kept) (numbered (codes "end") (number_of kept))
+turn_of (Store kept) End body = stays (Store kept) (numbered (codes "end") (number_of kept))

@@ -2,7 +2,8 @@
 use Rattle.std.specs.Prelude.{ℕ, List, length, take, drop, Bool, ◌&&◌, ◌||◌, ◌==◌, nat_lt, nat_eq, slice_index, Option, None, Some, codes, if◌then◌else◌}
 use Rattle.std.specs.List.{starts_with}
 use Rattle.std.specs.Option.{option_map}
-use Rattle.nm_ident.specs.Name.{same_text}
+use Rattle.nm_terms.specs.Bytes.{same_text}
+use Rattle.nm_model.specs.Limits.{longest_document}
 use Rattle.nm_cli.specs.Day.{day_of}
 use Rattle.nm_cli.specs.Digits.{number_within}
 use Rattle.nm_cli.specs.declared.word.Word.{Word}
@@ -12,9 +13,9 @@ use Rattle.nm_cli.specs.declared.word.Word.TheVariants.{Base, File, Assemble, Su
 abbrev pub has_leading_zero : List ℕ → Bool
 has_leading_zero text = (slice_index text 0 == 48) && nat_lt 1 (length text)
 
--- the length of a document: a number from 0 to 67,108,864 in decimal digits, without a leading zero
+-- the length of a document: a number within the limit on its bytes, in decimal digits without a leading zero
 unfoldable pub length_of : List ℕ → Option ℕ
-length_of text = if (length text == 0) || has_leading_zero text then None else number_within 67108864 text
+length_of text = if (length text == 0) || has_leading_zero text then None else number_within longest_document text
 
 abbrev pub file_with : Option (List ℕ) → Option ℕ → Option Word
 file_with None len = None

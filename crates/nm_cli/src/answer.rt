@@ -82,9 +82,18 @@ fn limit_name(limit: Limit) -> &'static [u8]
     ensures { result.now ≡ spec.limit_name limit }
 {
     match limit {
+        Limit::L1 => b"L1",
+        Limit::L2 => b"L2",
+        Limit::L3 => b"L3",
         Limit::L4 => b"L4",
         Limit::L5 => b"L5",
-        _ => b"L6",
+        Limit::L6 => b"L6",
+        Limit::L7 => b"L7",
+        Limit::L8 => b"L8",
+        Limit::L9 => b"L9",
+        Limit::L10 => b"L10",
+        Limit::L11 => b"L11",
+        Limit::L12 => b"L12",
     }
 }
 

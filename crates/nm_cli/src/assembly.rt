@@ -106,10 +106,7 @@ fn scenario_time(alloc: Global, day: Day) -> Result<Literal, NoMemory>
 {
     let mut text = day.text().to_vec(alloc)?;
     text.extend_from_slice(b"T00:00:00Z")?;
-    match Literal::new(alloc, &text) {
-        Ok(literal) => Ok(literal),
-        Err(_) => Err(NoMemory),
-    }
+    Literal::new(alloc, &text).map_err(|_| NoMemory)
 }
 
 /// The base and the models in service, strictly rising.

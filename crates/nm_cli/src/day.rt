@@ -23,7 +23,7 @@ impl Model for Day {
 
 impl Day {
     /// Reads four digits from 1900 to 2999, `-`, two digits from 01 to 12, `-`, and two digits from
-    /// 01 to 31. `None` comes exactly elsewhere.
+    /// 01 to 31. `None` for any other text.
     #[tactic(auto, unfolding(crate::specs::Day::day_of))]
     pub fn parse(text: &[u8]) -> Option<Day>
         ensures { result ≡ spec.day_of text.now }
@@ -57,7 +57,7 @@ fn is_day(text: &[u8]) -> bool
 
 /// Whether decimal digits spell a number from `low` to `high`.
 fn is_number_between(low: u64, high: u64, digits: &[u8]) -> bool
-    requires { high ≤ 67108864 }
+    requires { high ≤ u32.MAX }
     ensures { result ≡ spec.is_number_between low high digits.now }
 {
     match number_within(high, digits) {

@@ -2,10 +2,10 @@
 ghost use Rattle.nm_cli.specs.Digits as spec;
 ghost use Rattle.std.specs.Prelude.{◌≡◌, ◌≤◌};
 
-/// The number that decimal digits spell. `None` comes exactly where a byte is no digit, or the
-/// number is larger than `most`.
+/// The number that decimal digits spell. `None` where a byte is no digit, or the number is larger
+/// than `most`.
 pub fn number_within(most: u64, digits: &[u8]) -> Option<u64>
-    requires { most ≤ 67108864 }
+    requires { most ≤ u32.MAX }
     ensures { result ≡ spec.number_within most digits.now }
 {
     let mut number = 0;

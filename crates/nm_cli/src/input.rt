@@ -1,21 +1,20 @@
 // The lines and documents of a stream.
 ghost use Rattle.std.specs.Prelude.{◌≡◌, ◌≢◌, ◌+◌, ◌-◌, ◌<◌, ◌≤◌, [], ◌++◌, length, take, drop, min, None, position, IfOk, IfErr, OnOk};
-ghost use Rattle.nm_base.specs.declared.outcome.Status.TheVariants.{BadSession, TooMuch};
 ghost use Rattle.std.specs.Io.KnownBytes.{Consumes};
-ghost use Rattle.nm_cli.specs.Stream.{is_line_feed, longest_session};
-ghost use Rattle.nm_cli.specs.Held.{Held};
+ghost use Rattle.nm_cli.specs.Limits.{longest_line, longest_session};
+ghost use Rattle.nm_cli.specs.Stream.{is_line_feed};
+ghost use Rattle.nm_cli.specs.Buffered.{Buffered};
 ghost use Rattle.nm_cli.specs.Input.{coming, ReadsAhead, GivesLine, GivesBody, ReadStops, AheadStops, SeekStops, LineStops, BodyStops, CountsReads};
+ghost use Rattle.nm_cli.specs.declared.stop.Stop.TheVariants.{BadLine, TooMuch};
 
+use crate::limits::{LONGEST_LINE, LONGEST_SESSION};
 use crate::stop::Stop;
-use nm_base::{NoMemory, Source, Status};
+use nm_base::{NoMemory, Source};
 use std::alloc::Global;
 use std::marker::Model;
 
-/// The most bytes that a session takes as lines and documents.
-const LONGEST_SESSION: u64 = 4_294_967_296;
-
 /// The bytes among which a line has to end: those of the longest line, and its line feed.
-const LINE_ROOM: u64 = 257;
+const LINE_ROOM: u64 = LONGEST_LINE + 1;
 
 /// How many bytes are asked for at once.
 const CHUNK: usize = 65_536;
@@ -31,13 +30,14 @@ pub struct Input {
 
 impl Model for Input {
     ghost use Rattle.std.specs.Prelude.{◌≤◌, drop, length};
-    ghost use Rattle.nm_cli.specs.Held.{Held};
+    ghost use Rattle.nm_cli.specs.Buffered.{Buffered};
+    ghost use Rattle.nm_cli.specs.Limits.{longest_session};
 
-    ghost Value = { Held };
+    ghost Value = { Buffered };
 
     ghost view = { λ i. record { ahead = drop i.start i.ahead.items; given = i.given } };
 
-    ghost invariant = { λ i. (i.start ≤ length i.ahead.items) × (i.given ≤ 4294967296) };
+    ghost invariant = { λ i. (i.start ≤ length i.ahead.items) × (i.given ≤ longest_session) };
 }
 
 impl Input {
@@ -62,11 +62,11 @@ impl Input {
 
     /// The next line without its line feed.
     ///
-    /// A stop is `BadSession` where no line ends among the next 257 bytes, `TooMuch` where the
+    /// A stop is `BadLine` where more than 256 bytes come before a line feed, `TooMuch` where the
     /// session may take no more bytes, and `Cut` where the source ends before.
     pub fn next_line<S: Source>(&mut self, alloc: Global, source: &mut S) -> Result<Vec<u8>, Stop>
         ensures line { IfOk result (λ line. GivesLine self.old self.new (S.left source.old) (S.left source.new) line.items) }
-        ensures stop { IfErr result (λ stop. LineStops stop.status stop.at self.old (S.left source.old)) }
+        ensures stop { IfErr result (λ stop. LineStops stop self.old (S.left source.old)) }
         ensures counted { CountsReads (S.faults source.old) (S.faults source.new) result }
         ensures beside_stays { S.beside source.new ≡ S.beside source.old }
     {
@@ -92,21 +92,21 @@ impl Input {
         len: u64,
     ) -> Result<Vec<u8>, Stop>
         ensures body { IfOk result (λ body. GivesBody self.old self.new (S.left source.old) (S.left source.new) len body.items) }
-        ensures stop { IfErr result (λ stop. BodyStops stop.status stop.at len self.old (S.left source.old)) }
+        ensures stop { IfErr result (λ stop. BodyStops stop len self.old (S.left source.old)) }
         ensures counted { CountsReads (S.faults source.old) (S.faults source.new) result }
         ensures beside_stays { S.beside source.new ≡ S.beside source.old }
     {
         let room = self.room(len);
         self.read_ahead(alloc, source, room)?;
         if (room as u64) < len {
-            return Err(Stop::of(Status::TooMuch));
+            return Err(Stop::TooMuch);
         }
         let body = self.front(alloc, room)?;
         self.give(room);
         Ok(body)
     }
 
-    /// How many of so many bytes the session may still take.
+    /// How many of the wanted bytes the session may still take.
     fn room(&self, wanted: u64) -> usize
         ensures room { result ≡ min wanted (longest_session - self.now.given) }
         ensures limit { self.now.given + result ≤ longest_session }
@@ -116,24 +116,24 @@ impl Input {
 
     /// The stop where no line ends within the room that there is.
     fn no_line(&self, room: usize) -> Stop
-        ensures long { room ≡ 257 → result ≡ record { status = BadSession; at = self.now.given } }
-        ensures full { room ≢ 257 → result ≡ record { status = TooMuch; at = 0 } }
+        ensures long { room ≡ longest_line + 1 → result ≡ BadLine self.now.given }
+        ensures full { room ≢ longest_line + 1 → result ≡ TooMuch }
     {
         if room == LINE_ROOM as usize {
-            Stop::bad_session(self.given)
+            Stop::BadLine { at: self.given }
         } else {
-            Stop::of(Status::TooMuch)
+            Stop::TooMuch
         }
     }
 
     /// How many bytes are read ahead.
-    fn held(&self) -> usize
+    fn buffered(&self) -> usize
         ensures { result ≡ length self.now.ahead }
     {
         self.ahead.len() - self.start
     }
 
-    /// The place of the first line feed among the first bytes, so many at most.
+    /// The place of the first line feed among the first bytes, at most `room`.
     fn line_end(&self, room: usize) -> Option<usize>
         ensures { result ≡ position is_line_feed (take room self.now.ahead) }
     {
@@ -150,7 +150,7 @@ impl Input {
 
     /// Counts the first bytes as given.
     fn give(&mut self, count: usize)
-        requires held { count ≤ length self.old.ahead }
+        requires buffered { count ≤ length self.old.ahead }
         requires limit { self.old.given + count ≤ longest_session }
         ensures { self.new ≡ record { ahead = drop count self.old.ahead; given = self.old.given + count } }
     {
@@ -158,8 +158,8 @@ impl Input {
         self.given += count as u64;
     }
 
-    /// Reads ahead until a line feed is among the first bytes, so many at most, or all of these
-    /// are held. The answer is the place of the first one.
+    /// Reads ahead until a line feed is among the first `room` bytes, or all of these are
+    /// buffered. The answer is the place of the first one.
     fn seek_line_end<S: Source>(
         &mut self,
         alloc: Global,
@@ -168,21 +168,21 @@ impl Input {
     ) -> Result<Option<usize>, Stop>
         ensures ahead { OnOk result (ReadsAhead self.old self.new (S.left source.old) (S.left source.new)) }
         ensures place { IfOk result (λ place. place ≡ position is_line_feed (take room self.new.ahead)) }
-        ensures held { IfOk result (λ place. place ≡ None → room ≤ length self.new.ahead) }
-        ensures stop { IfErr result (λ stop. SeekStops stop.status stop.at room self.old (S.left source.old)) }
+        ensures buffered { IfOk result (λ place. place ≡ None → room ≤ length self.new.ahead) }
+        ensures stop { IfErr result (λ stop. SeekStops stop room self.old (S.left source.old)) }
         ensures counted { CountsReads (S.faults source.old) (S.faults source.new) result }
         ensures beside_stays { S.beside source.new ≡ S.beside source.old }
     {
         'reading: loop {
             let place = self.line_end(room);
-            if place.is_some() || self.held() >= room {
+            if place.is_some() || self.buffered() >= room {
                 return Ok(place);
             }
             self.fill(alloc, source)?;
         }
     }
 
-    /// Reads ahead until so many bytes are held.
+    /// Reads ahead until `room` bytes are buffered.
     fn read_ahead<S: Source>(
         &mut self,
         alloc: Global,
@@ -190,12 +190,12 @@ impl Input {
         room: usize,
     ) -> Result<(), Stop>
         ensures ahead { OnOk result (ReadsAhead self.old self.new (S.left source.old) (S.left source.new)) }
-        ensures held { OnOk result (room ≤ length self.new.ahead) }
-        ensures stop { IfErr result (λ stop. AheadStops stop.status stop.at room self.old (S.left source.old)) }
+        ensures buffered { OnOk result (room ≤ length self.new.ahead) }
+        ensures stop { IfErr result (λ stop. AheadStops stop room self.old (S.left source.old)) }
         ensures counted { CountsReads (S.faults source.old) (S.faults source.new) result }
         ensures beside_stays { S.beside source.new ≡ S.beside source.old }
     {
-        'reading: while self.held() < room {
+        'reading: while self.buffered() < room {
             self.fill(alloc, source)?;
         }
         Ok(())
@@ -205,7 +205,7 @@ impl Input {
     fn fill<S: Source>(&mut self, alloc: Global, source: &mut S) -> Result<(), Stop>
         ensures ahead { OnOk result (ReadsAhead self.old self.new (S.left source.old) (S.left source.new)) }
         ensures more { OnOk result (length self.old.ahead < length self.new.ahead) }
-        ensures stop { IfErr result (λ stop. ReadStops stop.status stop.at (S.left source.old)) }
+        ensures stop { IfErr result (λ stop. ReadStops stop (S.left source.old)) }
         ensures counted { CountsReads (S.faults source.old) (S.faults source.new) result }
         ensures beside_stays { S.beside source.new ≡ S.beside source.old }
     {
@@ -235,7 +235,7 @@ impl Input {
     }
 }
 
-/// The first bytes, so many at most.
+/// The first bytes, at most `room`.
 fn front_of(bytes: &[u8], room: usize) -> &[u8]
     ensures { result.now ≡ take room bytes.now }
 {
@@ -254,13 +254,13 @@ fn read_some<S: Source>(source: &mut S, chunk: &mut [u8]) -> Result<usize, Stop>
     requires { 0 < length chunk.old }
     ensures within { IfOk result (λ count. (0 < count) × (count ≤ length chunk.new)) }
     ensures bytes { IfOk result (λ count. Consumes (S.left source.old) (S.left source.new) (take count chunk.new)) }
-    ensures stop { IfErr result (λ stop. ReadStops stop.status stop.at (S.left source.old)) }
+    ensures stop { IfErr result (λ stop. ReadStops stop (S.left source.old)) }
     ensures counted { CountsReads (S.faults source.old) (S.faults source.new) result }
     ensures beside_stays { S.beside source.new ≡ S.beside source.old }
 {
     match source.read(chunk) {
-        Ok(0) => Err(Stop::of(Status::Cut)),
+        Ok(0) => Err(Stop::Cut),
         Ok(count) => Ok(count),
-        Err(_) => Err(Stop::of(Status::ReadFault)),
+        Err(_) => Err(Stop::ReadFault),
     }
 }

@@ -8,6 +8,7 @@ mod day;
 mod digits;
 mod filing;
 mod input;
+mod limits;
 mod order;
 mod project;
 mod refusal;

@@ -1,41 +1,47 @@
 // Why a session takes no further command.
-ghost use Rattle.nm_base.specs.declared.outcome.Status.TheVariants as status;
+ghost use Rattle.nm_cli.specs.Stops.{status_of};
+ghost use Rattle.nm_cli.specs.declared.stop.Stop.TheVariants as stops;
 ghost use Rattle.std.specs.Prelude.{◌≡◌};
 
 use nm_base::{NoMemory, Status};
 
-/// Why a session takes no further command, and the offset of a line that is none.
+/// Why a session takes no further command.
 #[derive(Clone, Copy, Debug, PartialEq, Eq)]
-pub struct Stop {
-    /// How the session ends.
-    pub status: Status,
-    /// Where the line begins that is no command, with `BadSession`, and else 0.
-    pub at: u64,
+pub enum Stop {
+    /// Reading the stream failed.
+    ReadFault,
+    /// Writing a reply failed.
+    WriteFault,
+    /// No memory was left.
+    NoMemory,
+    /// The line that begins at this offset is no command.
+    BadLine { at: u64 },
+    /// The stream ended before its last command.
+    Cut,
+    /// The session may take no more bytes.
+    TooMuch,
 }
 
 impl Stop {
-    /// A stop that names no place.
-    pub fn of(status: Status) -> Stop
-        ensures { result ≡ record { status = status; at = 0 } }
+    /// The status of a session that stops so.
+    pub fn status(self) -> Status
+        ensures { result ≡ status_of self }
     {
-        Stop { status, at: 0 }
-    }
-
-    /// The line at this offset is no command.
-    pub fn bad_session(at: u64) -> Stop
-        ensures { result ≡ record { status = status.BadSession; at = at } }
-    {
-        Stop {
-            status: Status::BadSession,
-            at,
+        match self {
+            Stop::ReadFault => Status::ReadFault,
+            Stop::WriteFault => Status::WriteFault,
+            Stop::NoMemory => Status::NoMemory,
+            Stop::BadLine { .. } => Status::BadSession,
+            Stop::Cut => Status::Cut,
+            Stop::TooMuch => Status::TooMuch,
         }
     }
 }
 
 impl From<NoMemory> for Stop {
-    ghost from_gives = { λ _ stop. stop ≡ record { status = status.NoMemory; at = 0 } };
+    ghost from_gives = { λ _ stop. stop ≡ stops.NoMemory };
 
     fn from(_: NoMemory) -> Stop {
-        Stop::of(Status::NoMemory)
+        Stop::NoMemory
     }
 }

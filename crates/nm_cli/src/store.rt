@@ -2,13 +2,17 @@
 ghost use Rattle.nm_cli.specs.Assembly as assembled;
 ghost use Rattle.nm_cli.specs.Filed.{projects_of};
 ghost use Rattle.nm_cli.specs.Kept as kept;
+ghost use Rattle.nm_cli.specs.Limits.{most_steps};
 ghost use Rattle.nm_cli.specs.Refusal as refused;
 ghost use Rattle.nm_cli.specs.Replay as replay;
+ghost use Rattle.nm_model.specs.Limits.{longest_document};
+ghost use Rattle.nm_terms.specs.Due.{RefusalIsDue};
 ghost use Rattle.std.specs.List.{list_any};
 ghost use Rattle.std.specs.Prelude.{◌≡◌, ℕ, ◌+◌, ◌++◌, ◌∷◌, [], ◌≤◌, IfOk, OnOk, OnErr, MatchResult, None, length, map};
 
 use crate::assembly::{assembly, statements_at};
 use crate::day::Day;
+use crate::limits::{LARGEST_STORE, MOST_STEPS};
 use crate::order::{in_order, in_service};
 use crate::project::Project;
 use crate::refusal::{Break, Refusal};
@@ -19,12 +23,6 @@ use nm_model::{Difference, Full};
 use nm_statement::Set;
 use std::alloc::Global;
 use std::marker::Model;
-
-/// The most live projects.
-const MOST_PROJECTS: usize = 4_096;
-
-/// The most bytes of documents over the base and the commands.
-const MOST_BYTES: u64 = 268_435_456;
 
 /// A project, and the bytes of the document that filed it.
 #[derive(Drop)]
@@ -59,7 +57,7 @@ impl Model for Store {
 impl Store {
     /// The store of a base whose document is `bytes`, without projects.
     pub fn open(alloc: Global, base: Full, bytes: Text) -> Store
-        requires { length bytes ≤ 67108864 }
+        requires { length bytes ≤ longest_document }
         ensures { result ≡ kept.opened base bytes }
     {
         Store {
@@ -73,7 +71,7 @@ impl Store {
     /// How many commands were accepted.
     pub fn number(&self) -> usize
         ensures number { result ≡ kept.number_of self.now }
-        ensures few { result ≤ 4096 }
+        ensures few { result ≤ most_steps }
     {
         self.filed.len()
     }
@@ -87,10 +85,10 @@ impl Store {
 
     /// Files a project that is in service from the day on. A refusal leaves the store as it was.
     ///
-    /// `InUse` comes exactly where the model's id is the base's or stands in a live lineage; else
-    /// `Limit` exactly where there would be more than 4,096 projects (`L4`), or else more than
-    /// 268,435,456 bytes of documents (`L6`); else `Step` exactly where a step of the changed list
-    /// does not fit, with the first cause of the first such step.
+    /// The first of these that holds: `InUse` where the model's id is the base's or stands in a
+    /// live lineage, `Limit` where there would be more than 4,096 steps (`L4`) or more than
+    /// 268,435,456 bytes of documents (`L6`), and `Step` where a step of the changed list does not
+    /// fit, with the first cause of the first such step. `NoMemory` at any time.
     pub fn file(
         &mut self,
         alloc: Global,
@@ -99,7 +97,7 @@ impl Store {
         bytes: Text,
     ) -> Result<(), Refusal>
         ensures due { MatchResult result (λ _. refused.refusal_of self.old day difference bytes ≡ None)
-            (λ refusal. refused.IsDue (refused.refusal_of self.old day difference bytes) refusal) }
+            (λ refusal. RefusalIsDue refused.wants_memory refusal (refused.refusal_of self.old day difference bytes)) }
         ensures ok { OnOk result (self.new ≡ refused.filed self.old day difference bytes) }
         ensures err { OnErr result (self.new ≡ self.old) }
     {
@@ -131,10 +129,10 @@ impl Store {
         if self.is_in_use(id) {
             return Some(Refusal::InUse(id));
         }
-        if self.filed.len() >= MOST_PROJECTS {
+        if self.filed.len() >= MOST_STEPS {
             return Some(Refusal::Limit(Limit::L4));
         }
-        if size > MOST_BYTES - self.size {
+        if size > LARGEST_STORE - self.size {
             return Some(Refusal::Limit(Limit::L6));
         }
         None

@@ -3,13 +3,17 @@ ghost use Rattle.std.specs.Prelude.{◌≡◌, ℕ, ◌<◌, ◌≤◌, List, If
 ghost use Rattle.std.specs.Io.KnownBytes.{Appends};
 ghost use Rattle.nm_base.specs.Faults.{CountsFaults};
 ghost use Rattle.nm_base.specs.Written.{AppendsFront};
-ghost use Rattle.nm_base.specs.declared.outcome.Status.TheVariants.{WriteFault, BadSession};
+ghost use Rattle.nm_base.specs.declared.outcome.Status.TheVariants.{BadSession};
 ghost use Rattle.nm_cli.specs.Answered.{AnswersStream, AnswersUnlessFaults, HasCause};
 ghost use Rattle.nm_cli.specs.Input.{coming, CountsReads};
-ghost use Rattle.nm_cli.specs.Stream.{longest_session, BadLine, by_word, with_body};
+ghost use Rattle.nm_cli.specs.Limits.{longest_session};
+ghost use Rattle.nm_cli.specs.Stops.{status_of};
+ghost use Rattle.nm_cli.specs.Stream.{BadLine, by_word, with_body};
 ghost use Rattle.nm_cli.specs.Turn.{allows};
 ghost use Rattle.nm_cli.specs.Turns.{is_end, is_input_stop, TakesCommand, CommandStops, TakesTurn, TurnStops, NamesBadLine, EndsWith};
 ghost use Rattle.nm_cli.specs.Word.{word_of, body_length};
+ghost use Rattle.nm_model.specs.Limits.{longest_document};
+ghost use Rattle.nm_cli.specs.declared.stop.Stop.TheVariants as stops;
 
 use crate::answer::numbered;
 use crate::input::Input;
@@ -25,7 +29,7 @@ use std::alloc::Global;
 /// it ended:
 ///
 /// - `Done`: the last command was `end`;
-/// - `BadSession`: a line was no command that is allowed there, or no line ended among 257 bytes.
+/// - `BadSession`: a line was no command that is allowed there, or was longer than 256 bytes.
 ///   The line `badline OFFSET` was written last, with the place in the stream where it begins;
 /// - `Cut`: the stream ended before its last command;
 /// - `TooMuch`: the session took as many bytes as it may, and no `end` was among them;
@@ -64,8 +68,8 @@ fn turn<S: Source, K: Sink>(
     ensures turn { IfOk result (λ last. IfSome (coming input.old (S.left source.old)) (λ bytes.
         TakesTurn state.old state.new input.old input.new bytes (S.left source.new) (K.written sink.old) (K.written sink.new) last)) }
     ensures stop { IfErr result (λ stop. IfSome (coming input.old (S.left source.old)) (λ bytes.
-        TurnStops stop.status stop.at state.old input.old bytes (K.written sink.old) (K.written sink.new))) }
-    ensures cause { IfErr result (λ stop. HasCause stop.status (S.faults source.old) (S.faults source.new) (K.faults sink.old) (K.faults sink.new)) }
+        TurnStops stop state.old input.old bytes (K.written sink.old) (K.written sink.new))) }
+    ensures cause { IfErr result (λ stop. HasCause (status_of stop) (S.faults source.old) (S.faults source.new) (K.faults sink.old) (K.faults sink.new)) }
     ensures progress { OnOk result ((input.old.given < input.new.given) × (input.new.given ≤ longest_session)) }
     ensures reads_kept { S.faults source.old ≤ S.faults source.new }
     ensures writes_kept { K.faults sink.old ≤ K.faults sink.new }
@@ -91,8 +95,8 @@ fn take_command<S: Source>(
     ensures allowed { IfOk result (λ taken. IsTrue (allows state.now taken.0)) }
     ensures progress { OnOk result ((input.old.given < input.new.given) × (input.new.given ≤ longest_session)) }
     ensures stop { IfErr result (λ stop. IfSome (coming input.old (S.left source.old)) (λ bytes.
-        CommandStops stop.status stop.at state.now input.old bytes)) }
-    ensures kind { IfErr result (λ stop. IsTrue (is_input_stop stop.status)) }
+        CommandStops stop state.now input.old bytes)) }
+    ensures kind { IfErr result (λ stop. IsTrue (is_input_stop stop)) }
     ensures counted { CountsReads (S.faults source.old) (S.faults source.new) result }
     ensures beside_stays { S.beside source.new ≡ S.beside source.old }
 {
@@ -105,14 +109,14 @@ fn take_command<S: Source>(
 
 /// The command of a line, where it is one in this state.
 fn command(state: &State, line: &[u8], at: u64) -> Result<Word, Stop>
-    ensures word { IfOk result (λ word. IsTrue (allows state.now word) × (body_length word ≤ 67108864)
+    ensures word { IfOk result (λ word. IsTrue (allows state.now word) × (body_length word ≤ longest_document)
         × ((bytes : List ℕ) → by_word state.now (word_of line.now) bytes ≡ with_body word bytes)) }
-    ensures bad { IfErr result (λ stop. (stop ≡ record { status = BadSession; at = at })
+    ensures bad { IfErr result (λ stop. (stop ≡ stops.BadLine at)
         × ((bytes : List ℕ) → by_word state.now (word_of line.now) bytes ≡ BadLine)) }
 {
     match Word::parse(line) {
         Some(word) if state.allows(&word) => Ok(word),
-        _ => Err(Stop::bad_session(at)),
+        _ => Err(Stop::BadLine { at }),
     }
 }
 
@@ -126,39 +130,37 @@ fn is_end(word: &Word) -> bool
 /// Writes a reply whole.
 fn write_reply<K: Sink>(sink: &mut K, reply: &[u8]) -> Result<(), Stop>
     ensures whole { OnOk result (Appends (K.written sink.old) (K.written sink.new) reply.now) }
-    ensures front { IfErr result (λ stop. (stop.status ≡ WriteFault) × AppendsFront (K.written sink.old) (K.written sink.new) reply.now) }
+    ensures front { IfErr result (λ stop. (stop ≡ stops.WriteFault) × AppendsFront (K.written sink.old) (K.written sink.new) reply.now) }
     ensures counted { CountsFaults (K.faults sink.old) (K.faults sink.new) result }
     ensures beside_stays { K.beside sink.new ≡ K.beside sink.old }
 {
-    match write_whole(sink, reply) {
-        Ok(()) => Ok(()),
-        Err(_) => Err(Stop::of(Status::WriteFault)),
-    }
+    write_whole(sink, reply).map_err(|_| Stop::WriteFault)
 }
 
 /// The status of a session that stopped, after the line that names a bad one's offset.
 fn ended<K: Sink>(alloc: Global, stop: Stop, sink: &mut K) -> Status
-    ensures ends { EndsWith stop.status stop.at result (K.written sink.old) (K.written sink.new) (K.faults sink.old) (K.faults sink.new) }
+    ensures ends { EndsWith stop result (K.written sink.old) (K.written sink.new) (K.faults sink.old) (K.faults sink.new) }
     ensures writes_kept { K.faults sink.old ≤ K.faults sink.new }
     ensures beside_stays { K.beside sink.new ≡ K.beside sink.old }
 {
-    match stop.status {
-        Status::BadSession => name_bad_line(alloc, stop.at, sink),
-        status => status,
+    match stop {
+        Stop::BadLine { at } => match name_bad_line(alloc, at, sink) {
+            Ok(()) => Status::BadSession,
+            Err(failed) => failed.status(),
+        },
+        Stop::ReadFault | Stop::WriteFault | Stop::NoMemory | Stop::Cut | Stop::TooMuch => {
+            stop.status()
+        }
     }
 }
 
 /// Writes the line that names the offset of a bad one.
-fn name_bad_line<K: Sink>(alloc: Global, at: u64, sink: &mut K) -> Status
-    ensures named { NamesBadLine result at (K.written sink.old) (K.written sink.new) (K.faults sink.old) (K.faults sink.new) }
+fn name_bad_line<K: Sink>(alloc: Global, at: u64, sink: &mut K) -> Result<(), Stop>
+    ensures named { OnOk result (NamesBadLine BadSession at (K.written sink.old) (K.written sink.new) (K.faults sink.old) (K.faults sink.new)) }
+    ensures stop { IfErr result (λ stop. NamesBadLine (status_of stop) at (K.written sink.old) (K.written sink.new) (K.faults sink.old) (K.faults sink.new)) }
     ensures writes_kept { K.faults sink.old ≤ K.faults sink.new }
     ensures beside_stays { K.beside sink.new ≡ K.beside sink.old }
 {
-    match numbered(alloc, b"badline", at) {
-        Ok(line) => match write_whole(sink, &line) {
-            Ok(()) => Status::BadSession,
-            Err(_) => Status::WriteFault,
-        },
-        Err(_) => Status::NoMemory,
-    }
+    let line = numbered(alloc, b"badline", at)?;
+    write_reply(sink, &line)
 }

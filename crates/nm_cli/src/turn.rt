@@ -32,12 +32,16 @@ impl State {
     pub fn allows(&self, word: &Word) -> bool
         ensures { result ≡ spec.allows self.now word.now }
     {
-        match (self, word) {
-            (_, Word::End) => true,
-            (State::Empty, Word::Base { .. }) => true,
-            (State::Empty, _) => false,
-            (State::Store(_), Word::Base { .. }) => false,
-            (State::Store(_), _) => true,
+        match self {
+            State::Empty => match word {
+                Word::Base { .. } | Word::End => true,
+                Word::File { .. } | Word::Assemble { .. } | Word::Summary { .. } => false,
+            },
+            State::Store(_) => match word {
+                Word::File { .. } | Word::Assemble { .. } | Word::Summary { .. } | Word::End =>
+                    true,
+                Word::Base { .. } => false,
+            },
         }
     }
 }
@@ -57,13 +61,16 @@ pub fn step(
     match state {
         State::Empty => match word {
             Word::Base { .. } => take_base(alloc, state, body),
-            _ => numbered(alloc, b"end", 0),
+            Word::End => numbered(alloc, b"end", 0),
+            Word::File { .. } | Word::Assemble { .. } | Word::Summary { .. } => unreachable!(),
         },
         State::Store(store) => answer(alloc, store, word, body),
     }
 }
 
+/// The reply to a command where there is a base.
 fn answer(alloc: Global, store: &mut Store, word: Word, body: Vec<u8>) -> Result<Vec<u8>, NoMemory>
+    requires { IsTrue (spec.allows (state_of.Store store.old) word) }
     ensures ok { IfOk result (λ reply. (reply.items ≡ (spec.turn_of (state_of.Store store.old) word body.items).reply)
         × (state_of.Store store.new ≡ (spec.turn_of (state_of.Store store.old) word body.items).state)) }
     ensures err { OnErr result (store.new ≡ store.old) }
@@ -72,7 +79,8 @@ fn answer(alloc: Global, store: &mut Store, word: Word, body: Vec<u8>) -> Result
         Word::File { day, .. } => file(alloc, store, day, body),
         Word::Assemble { day } => assembled(alloc, store, day),
         Word::Summary { day } => summarized(alloc, store, day),
-        _ => numbered(alloc, b"end", store.number() as u64),
+        Word::End => numbered(alloc, b"end", store.number() as u64),
+        Word::Base { .. } => unreachable!(),
     }
 }
 

@@ -1,19 +1,18 @@
 // The command lines of a session.
 ghost use Rattle.nm_cli.specs.Word as spec;
+ghost use Rattle.nm_model.specs.Limits.{longest_document};
 ghost use Rattle.std.specs.Prelude.{◌≡◌, ◌≤◌, IfSome};
 
 use crate::day::Day;
 use crate::digits::number_within;
-
-/// The longest document, in bytes.
-pub const LONGEST_DOCUMENT: u64 = 67_108_864;
+use nm_model::LONGEST_DOCUMENT;
 
 /// A command line.
 #[derive(Clone, Copy, Debug, PartialEq, Eq)]
 pub enum Word {
-    /// The base, a full model of so many bytes.
+    /// The base, a full model of `len` bytes.
     Base { len: u64 },
-    /// A project in service from a day on, a difference model of so many bytes.
+    /// A project in service from a day on, a difference model of `len` bytes.
     File { day: Day, len: u64 },
     /// The model as it is on a day.
     Assemble { day: Day },
@@ -25,10 +24,11 @@ pub enum Word {
 
 impl Word {
     /// Reads one line without its line feed: `base LEN`, `file DAY LEN`, `assemble DAY`,
-    /// `summary DAY` or `end`, with single spaces. `None` comes exactly elsewhere.
+    /// `summary DAY` or `end`, with single spaces. `None` for any
+    /// other line.
     pub fn parse(line: &[u8]) -> Option<Word>
         ensures word { result ≡ spec.word_of line.now }
-        ensures bound { IfSome result (λ word. spec.body_length word ≤ 67108864) }
+        ensures bound { IfSome result (λ word. spec.body_length word ≤ longest_document) }
     {
         if line == b"end".as_slice() {
             return Some(Word::End);
@@ -56,7 +56,7 @@ impl Word {
 #[tactic(auto, unfolding(crate::specs::Word::dated_line))]
 fn dated_line(line: &[u8]) -> Option<Word>
     ensures word { result ≡ spec.dated_line line.now }
-    ensures bound { IfSome result (λ word. spec.body_length word ≤ 67108864) }
+    ensures bound { IfSome result (λ word. spec.body_length word ≤ longest_document) }
 {
     if let Some(day) = line.strip_prefix(b"assemble ") {
         return Some(Word::Assemble {
@@ -73,7 +73,7 @@ fn dated_line(line: &[u8]) -> Option<Word>
 
 fn file_line(line: &[u8]) -> Option<Word>
     ensures word { result ≡ spec.file_line line.now }
-    ensures bound { IfSome result (λ word. spec.body_length word ≤ 67108864) }
+    ensures bound { IfSome result (λ word. spec.body_length word ≤ longest_document) }
 {
     file_of(line.strip_prefix(b"file ")?)
 }
@@ -82,7 +82,7 @@ fn file_line(line: &[u8]) -> Option<Word>
 #[tactic(auto, unfolding(crate::specs::Word::file_of))]
 fn file_of(words: &[u8]) -> Option<Word>
     ensures word { result ≡ spec.file_of words.now }
-    ensures bound { IfSome result (λ word. spec.body_length word ≤ 67108864) }
+    ensures bound { IfSome result (λ word. spec.body_length word ≤ longest_document) }
 {
     let (day, rest) = words.split_at_checked(10)?;
     let len = length_of(rest.strip_prefix(b" ")?)?;
@@ -96,10 +96,10 @@ fn file_of(words: &[u8]) -> Option<Word>
 #[tactic(auto, unfolding(crate::specs::Word::length_of))]
 fn length_of(digits: &[u8]) -> Option<u64>
     ensures length { result ≡ spec.length_of digits.now }
-    ensures bound { IfSome result (λ len. len ≤ 67108864) }
+    ensures bound { IfSome result (λ len. len ≤ longest_document) }
 {
     if digits.is_empty() || (digits[0] == b'0' && digits.len() > 1) {
         return None;
     }
-    number_within(LONGEST_DOCUMENT, digits)
+    number_within(LONGEST_DOCUMENT as u64, digits)
 }

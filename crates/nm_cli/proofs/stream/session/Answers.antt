@@ -46,7 +46,7 @@ returns-in-Ok-true-clause-complete g c =
 pub returns-in-Err-clause-answers : goal.returns-in-Err-clause-answers
 returns-in-Err-clause-answers g c =
     each (g.S.Source.left c.args.source.now)
-    (λ stream stands. ends_stopped stream c.turns.input _ c.turns.state c.in-Err.stop.status _ _ _ _ _ _ _ _ stands c.in-Err.ensures.stop c.ended.ensures.ends)
+    (λ stream stands. ends_stopped stream c.turns.input _ c.turns.state c.in-Err.stop _ _ _ _ _ _ _ stands c.in-Err.ensures.stop c.ended.ensures.ends)
     c.turns.invariant.stands
 
 pub returns-in-Err-clause-complete : goal.returns-in-Err-clause-complete
@@ -55,8 +55,8 @@ returns-in-Err-clause-complete g c =
     let call = c.in-Err.ensures in
     each (g.S.Source.left c.args.source.now)
     (λ stream stands. is_complete stream _ _ _ _ _ _ _
-    (ended_cause c.in-Err.stop.status c.in-Err.stop.at c.ended.result _ _ (g.S.Source.faults c.args.source.now) (g.S.Source.faults c.turns.source) (g.S.Source.faults c.turn.new.source)
+    (ended_cause c.in-Err.stop c.ended.result _ _ (g.S.Source.faults c.args.source.now) (g.S.Source.faults c.turns.source) (g.S.Source.faults c.turn.new.source)
     (g.K.Sink.faults c.args.sink.now) (g.K.Sink.faults c.turns.sink) (g.K.Sink.faults c.turn.new.sink) (g.K.Sink.faults c.ended.new.sink)
     call.cause before.reads_kept before.writes_kept call.writes_kept c.ended.ensures.writes_kept c.ended.ensures.ends)
-    (ends_stopped stream c.turns.input _ c.turns.state c.in-Err.stop.status _ _ _ _ _ _ _ _ stands call.stop c.ended.ensures.ends))
+    (ends_stopped stream c.turns.input _ c.turns.state c.in-Err.stop _ _ _ _ _ _ _ stands call.stop c.ended.ensures.ends))
     before.stands

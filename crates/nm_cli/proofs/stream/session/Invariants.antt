@@ -1,7 +1,7 @@
 -- In between two commands the session stands in its stream, and no fault is lost.
 use Rattle.std.proofs.Common.{◌≡◌, ◌-◌, ◌≤◌, IfSome}
 use Rattle.nm_cli.proofs.Sessions.{Standing}
-use Rattle.nm_cli.specs.Stream.{longest_session}
+use Rattle.nm_cli.specs.Limits.{longest_session}
 use Rattle.nm_cli.proofs.stream.session.Given as goal
 
 abbrev pub invariant-turns : goal.invariant-turns

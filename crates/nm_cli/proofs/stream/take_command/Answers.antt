@@ -12,7 +12,7 @@ pub returns-in_err-body-clause-stop : goal.returns-in_err-body-clause-stop
 returns-in_err-body-clause-stop g c =
     let p = err_from_is_err_and c.from_residual-in_err-body.result c.from_residual-in_err-body.ensures.1 in
     let line = same_line _ c.next_line.new.self _ _ _ _ c.deref.ensures.value c.in_ok-line.ensures.line in
-    rw (p.1, p.2) (no_body _ _ c.next_line.new.self _ _ c.deref.result.now c.in_ok-word.word _ _ c.body.result line c.in_ok-word.ensures.word.2 c.body.ensures c.in_err-body.ensures.stop)
+    rw (p.1, p.2) (no_body _ _ c.next_line.new.self _ _ c.deref.result.now c.in_ok-word.word _ c.body.result line c.in_ok-word.ensures.word.2 c.body.ensures c.in_err-body.ensures.stop)
 
 pub returns-clause-command : goal.returns-clause-command
 returns-clause-command g c =

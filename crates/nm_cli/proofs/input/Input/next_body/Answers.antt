@@ -8,5 +8,5 @@ give-requires-clause-limit g c = omega (arith, c.in_ok-read_ahead.ensures.ahead.
 pub returns-clause-body : goal.returns-clause-body
 returns-clause-body g c =
     gives_body _ c.read_ahead.new.self _ _ _ _ c.room-room.result _ c.in_ok-read_ahead.ensures.ahead
-    (omega (arith, c.room-room.ensures.room)) c.room-room.ensures.limit c.in_ok-read_ahead.ensures.held c.in_ok-body.ensures
+    (omega (arith, c.room-room.ensures.room)) c.room-room.ensures.limit c.in_ok-read_ahead.ensures.buffered c.in_ok-body.ensures
     (ap (λ h. h.ahead) c.give.ensures) (ap (λ h. h.given) c.give.ensures)

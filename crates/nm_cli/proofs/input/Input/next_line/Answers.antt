@@ -5,7 +5,7 @@ use Rattle.nm_cli.proofs.input.Input.next_line.Goals as goal
 
 pub returns-in_err-place-clause-stop : goal.returns-in_err-place-clause-stop
 returns-in_err-place-clause-stop g c =
-    let p = err_from_is_err_and c.from_residual.result c.from_residual.ensures.1 in rw (p.1, p.2) (line_stops _ _ c.room-room.result _ _ c.room-room.ensures.room c.in_err-place.ensures.stop)
+    let p = err_from_is_err_and c.from_residual.result c.from_residual.ensures.1 in rw (p.1, p.2) (line_stops _ c.room-room.result _ _ c.room-room.ensures.room c.in_err-place.ensures.stop)
 
 pub returns-in_ok-line-in-Some-clause-line : goal.returns-in_ok-line-in-Some-clause-line
 returns-in_ok-line-in-Some-clause-line g c =
@@ -16,7 +16,7 @@ returns-in_ok-line-in-Some-clause-line g c =
 pub returns-in-None-clause-stop : goal.returns-in-None-clause-stop
 returns-in-None-clause-stop g c =
     no_line_stops _ _ c.seek_line_end.new.self _ _ c.room-room.result (record { long = c.no_line.ensures.long; full = c.no_line.ensures.full }) c.in_ok-place.ensures.ahead
-    c.room-room.ensures.room (sym c.in_ok-place.ensures.place ∙ c.in-None.is) (c.in_ok-place.ensures.held c.in-None.is)
+    c.room-room.ensures.room (sym c.in_ok-place.ensures.place ∙ c.in-None.is) (c.in_ok-place.ensures.buffered c.in-None.is)
 
 pub returns-in-None-clause-counted : goal.returns-in-None-clause-counted
 returns-in-None-clause-counted g c = record {

@@ -12,6 +12,6 @@ invariant-reading g l =
       beside_stays : source.beside l.source ≡ source.beside l.fn.source;
     }
 
--- how many bytes are not held yet
+-- how many bytes are not buffered yet
 abbrev pub decreases-reading : goal.decreases-reading
 decreases-reading g l = l.room - length l.self.ahead
