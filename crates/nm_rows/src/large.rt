@@ -1,33 +1,17 @@
-//! A model of 100,000 statements, written and read back.
-use nm_ident::{Ident, Ids, Name, RDF_NAMESPACE, Text, Texts};
-use nm_model::{Document, Full, Header};
+//! A model of 100,000 statements, written and read back, and models about the limit on statements.
+use crate::models::{BASE, CIM, bare_header};
+use nm_ident::{Ident, Name, RDF_NAMESPACE, Text};
+use nm_model::{Document, Full};
 use nm_statement::{Literal, Object, Set, Statement};
 use nm_writer::{read_canonical, write_full};
 use std::alloc::Global;
 use std::test::Fail;
-
-/// The namespace of CIM 16.
-const CIM: &[u8] = b"http://iec.ch/TC57/2013/CIM-schema-cim16#";
 
 const SUBSTATIONS: u32 = 50_000;
 
 /// How the document goes on behind its header.
 const FIRST_SUBSTATION: &[u8] =
     b"</md:FullModel>\n<cim:Substation rdf:ID=\"s00000\">\n<cim:IdentifiedObject.name>00000</cim:IdentifiedObject.name>\n</cim:Substation>\n<cim:Substation rdf:ID=\"s00001\">\n";
-
-fn header(alloc: Global) -> Header {
-    Header {
-        id: 0x10000000_0000_4000_8000_000000000001,
-        created: None,
-        scenario_time: None,
-        version: None,
-        description: None,
-        authority: None,
-        profiles: Texts::of_list(Vec::new(alloc)),
-        depends: Ids::of_list(Vec::new(alloc)),
-        supersedes: Ids::of_list(Vec::new(alloc)),
-    }
-}
 
 fn named(alloc: Global, id: &[u8], name: &[u8]) -> Result<Statement, Fail> {
     Ok(Statement {
@@ -63,7 +47,7 @@ fn many_statements_are_written_in_order_and_read_back(rt: HostRuntime) -> Result
     let alloc = rt.alloc();
     let statements = substations(alloc)?;
     assert_eq!(rt; statements.len(), 100_000);
-    let header = header(alloc);
+    let header = bare_header(alloc, BASE);
     let full = Full { header, statements };
     let text = write_full(alloc, &full)?;
     let lines = text.iter().filter(|byte| **byte == b'\n').count();
@@ -79,5 +63,30 @@ fn many_statements_are_written_in_order_and_read_back(rt: HostRuntime) -> Result
         }
         Document::Difference(_) => assert!(rt; false),
     }
+    Ok(())
+}
+
+/// A model that links one resource to so many others.
+fn linked(alloc: Global, count: u32) -> Result<Document, Fail> {
+    let predicate = Name::new(alloc, CIM, b"Equipment.EquipmentContainer")?;
+    let mut statements = Vec::with_capacity(alloc, count as usize)?;
+    for number in 0..count {
+        statements.push(Statement {
+            subject: Ident::Uuid(BASE),
+            predicate: predicate.copy(alloc)?,
+            object: Object::Resource(Ident::Uuid(u128::from(number))),
+        })?;
+    }
+    Ok(Document::Full(Full {
+        header: bare_header(alloc, BASE),
+        statements: Set::of_list(alloc, statements)?,
+    }))
+}
+
+#[test]
+fn a_full_model_states_at_most_1_048_576_statements(rt: HostRuntime) -> Result<(), Fail> {
+    let alloc = rt.alloc();
+    assert!(rt; linked(alloc, 1_048_576)?.is_within_limits());
+    assert!(rt; !linked(alloc, 1_048_577)?.is_within_limits());
     Ok(())
 }

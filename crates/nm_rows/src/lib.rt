@@ -7,6 +7,12 @@ mod documents;
 #[cfg(test)]
 mod large;
 #[cfg(test)]
+mod models;
+#[cfg(test)]
+mod pieces;
+#[cfg(test)]
 mod sessions;
 #[cfg(test)]
 mod tests;
+#[cfg(test)]
+mod writing;
