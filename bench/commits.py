@@ -14,7 +14,7 @@ sys.dont_write_bytecode = True
 sys.path.insert(0, str(ROOT / "tests"))
 
 import plain  # noqa: E402
-from plain import CIM, TYPE, Difference, Full, Header, canonical  # noqa: E402
+from models import CIM, TYPE, Difference, Full, Header, canonical  # noqa: E402
 
 NM = os.environ.get("NM", str(ROOT / "crates/nm/out/nm"))
 NAME = (CIM, b"IdentifiedObject.name")

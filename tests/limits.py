@@ -1,7 +1,7 @@
 """Documents at their limits, and one past them: literals, IRIs, header lists, statements of a difference, bytes."""
 import plain
 from harness import check, finish, run
-from plain import CIM, Difference, Full, Header, canonical
+from models import CIM, Difference, Full, Header, canonical
 
 BASE_ID, SUBJECT = 0x10000000_0000_4000_8000_000000000001, (0, 0x20000000_0000_4000_8000_000000000001)
 NAME = (CIM, b"IdentifiedObject.name")

@@ -3,7 +3,8 @@
 The program needs about 3 GB for this.
 """
 from harness import TESTS, check, finish, run
-from plain import CIM, MOST_BYTES, MOST_DOCUMENT, MOST_LITERAL, Difference, Header, canonical
+from models import CIM, MOST_DOCUMENT, MOST_LITERAL, Difference, Header, canonical
+from plain import MOST_BYTES
 
 BASE = (TESTS / "rows/a-base-assembled/in").read_bytes()[:471]
 BASE_BYTES, BASE_STATEMENTS = 462, 2

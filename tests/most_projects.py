@@ -3,7 +3,7 @@
 Each filing replays all projects before it, so this takes long.
 """
 from harness import TESTS, check, finish, first_difference, run
-from plain import Difference, Header, canonical, uuid_text
+from models import Difference, Header, canonical, uuid_text
 
 BASE = (TESTS / "rows/a-base-assembled/in").read_bytes()[:471]
 FIRST = 0x40000000_0000_4000_8000_000000000000

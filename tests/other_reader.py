@@ -5,9 +5,9 @@ So the escapes, the namespaces and the identities mean to another reader what th
 import re
 import xml.etree.ElementTree as ElementTree
 
-import plain
+import documents
 from harness import TESTS, check, finish, run
-from plain import RDF, TYPE, ident_of_about, ident_of_id, object_of_resource
+from models import RDF, TYPE, ident_of_about, ident_of_id, object_of_resource
 
 EXAMPLES = TESTS.parent / "examples"
 
@@ -50,9 +50,7 @@ streams += [(path.parent, path.read_bytes()) for path in sorted((TESTS / "rows")
 count = 0
 for path, given in streams:
     for document in documents_in(run(given)[0]):
-        # An assembly has a scenario time, which the plain reader does not read yet.
-        line = re.compile(rb"<md:Model.scenarioTime>.*\n")
-        model = plain.Reader(line.sub(b"", document)).document()
+        model = documents.read(document)
         root = ElementTree.fromstring(document)
         check(f"{path.name}, a document of {len(document)} bytes", model.statements, statements_of(root[1:]))
         count += 1

@@ -16,7 +16,7 @@ import sys
 
 import plain
 from harness import TESTS, check, finish, first_difference, run
-from plain import CIM, TYPE, Difference, Full, Header, canonical
+from models import CIM, TYPE, Difference, Full, Header, canonical
 
 GRID = b"http://example.org/grid#"
 NAME, CONTAINER, OWNER = (CIM, b"IdentifiedObject.name"), (CIM, b"Equipment.EquipmentContainer"), (GRID, b"owner")
