@@ -1,5 +1,6 @@
-//! Reads documents of power network models (CIMXML, IEC 61970-552): the model that a document
-//! states, or where and why it states none.
+//! What documents of power network models state (CIMXML, IEC 61970-552): the model of a document,
+//! or where and why it states none. The call that reads a document is still to come; what judges one
+//! piece of it after another stands here already.
 #![tactic(auto)]
 
 mod attributes;
