@@ -17,4 +17,5 @@ mod Scans
 mod BetweenQuotes
 mod Meant
 mod NextInside
+pub mod AsSpelt
 mod Examples

@@ -34,3 +34,7 @@ abbrev pub is_plain_character : ℕ → Bool
 is_plain_character byte =
     ((byte == 0x9) || (byte == 0xA) || (byte == 0xD) || is_between 0x20 0x7F byte)
     && not ((byte == 38) || (byte == 60) || (byte == 62))
+
+-- whether a byte of a value's spelling is a byte of the value
+abbrev pub stands_for_itself : ℕ → Bool
+stands_for_itself byte = not ((byte == 38) || (byte == 0x9) || (byte == 0xA) || (byte == 0xD))

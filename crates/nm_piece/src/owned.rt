@@ -3,15 +3,17 @@ ghost use Rattle.nm_piece.specs.Next.{next_due, wants_memory};
 ghost use Rattle.nm_piece.specs.Raw.{attribute_of, name_of};
 ghost use Rattle.nm_piece.specs.Token.{piece_of};
 ghost use Rattle.nm_terms.specs.Due.{IsDue};
+ghost use Rattle.nm_text.specs.White.{is_white_text as is_white_meant};
 ghost use Rattle.std.specs.Option.{option_map};
-ghost use Rattle.std.specs.Prelude.{◌≡◌, ◌++◌, IfOk, OnOk};
+ghost use Rattle.std.specs.Prelude.{◌≡◌, ◌++◌, IfOk, IfSome, OnOk};
 
 use crate::piece::{Attribute, Attributes, Piece, QName};
+use crate::plain::is_value_as_spelt;
 use crate::raw::{RawAttribute, RawAttributes, RawName, RawText, RawValue, Token};
 use crate::tokens::token;
 use crate::unread::{PieceError, Unread};
 use nm_ident::{NoMemory, Text};
-use nm_text::{RefError, append_attribute, append_lines, append_run};
+use nm_text::{RefError, append_attribute, append_lines, append_run, is_white_text};
 use std::alloc::Global;
 
 /// The piece at the front of the bytes, and its length in bytes.
@@ -85,7 +87,7 @@ fn copy_of(alloc: Global, text: Option<&[u8]>) -> Result<Option<Text>, NoMemory>
 
 impl RawAttributes<'_> {
     /// The attributes that are left, in memory of their own.
-    fn to_list(mut self, alloc: Global) -> Result<Attributes, NoMemory>
+    pub fn to_list(mut self, alloc: Global) -> Result<Attributes, NoMemory>
         ensures { IfOk result (λ list. list ≡ self.entry) }
     {
         let mut list = Vec::new(alloc);
@@ -125,7 +127,36 @@ impl RawValue<'_> {
     }
 }
 
+impl<'a> RawValue<'a> {
+    #[tactic(auto, using(crate::proofs::AsSpelt::value_as_spelt))]
+    /// The value where it stands in the input, if it is spelt as it is: without references, and without
+    /// white space other than spaces.
+    pub fn as_spelt(&self) -> Option<&'a [u8]>
+        ensures { IfSome result (λ value. value.now ≡ self.now) }
+    {
+        if is_value_as_spelt(self.spelling) {
+            Some(self.spelling)
+        } else {
+            None
+        }
+    }
+}
+
 impl RawText<'_> {
+    #[tactic(auto, using(crate::proofs::AsSpelt::white_meant))]
+    /// Whether the text is white space alone. Memory is asked for where its spelling is something else,
+    /// since references stand for white space too.
+    pub fn is_white(&self, alloc: Global) -> Result<bool, NoMemory>
+        ensures { IfOk result (λ white. white ≡ is_white_meant self.now) }
+    {
+        if is_white_text(self.spelling) {
+            return Ok(true);
+        }
+        let mut text = Vec::with_capacity(alloc, self.spelling.len())?;
+        self.append_to(&mut text)?;
+        Ok(is_white_text(&text))
+    }
+
     /// Appends what the text stands for: references replaced in a run, each line end LF. After an
     /// error `out` has a part of it.
     pub fn append_to(&self, out: &mut Vec<u8>) -> Result<(), NoMemory>

@@ -1,6 +1,6 @@
 // Characters and references inside a value or a run.
 ghost use Rattle.nm_piece.specs.Value as spec;
-ghost use Rattle.nm_piece.specs.Meant.{is_plain_character};
+ghost use Rattle.nm_piece.specs.Meant.{is_plain_character, stands_for_itself as is_itself};
 ghost use Rattle.nm_text.specs.Utf8 as utf8;
 ghost use Rattle.std.specs.List.{list_all};
 ghost use Rattle.std.specs.Prelude.{◌≡◌};
@@ -23,6 +23,23 @@ fn is_plain_byte(byte: u8) -> bool
     ensures { result ≡ is_plain_character byte }
 {
     matches!(byte, b'\t' | b'\n' | b'\r' | b' '..=0x7F) && !matches!(byte, b'&' | b'<' | b'>')
+}
+
+/// Whether the bytes, which spell a value, are that value.
+pub fn is_value_as_spelt(spelling: &[u8]) -> bool
+    ensures { result ≡ list_all is_itself spelling.now }
+{
+    let mut all = true;
+    for byte in spelling {
+        all &= stands_for_itself(*byte);
+    }
+    all
+}
+
+fn stands_for_itself(byte: u8) -> bool
+    ensures { result ≡ is_itself byte }
+{
+    !matches!(byte, b'&' | b'\t' | b'\n' | b'\r')
 }
 
 /// Whether a text begins so.

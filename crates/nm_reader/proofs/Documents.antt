@@ -1,5 +1,5 @@
 -- An input states a model exactly where it has no fault, and then one model alone.
-use Rattle.std.proofs.Common.{◌≡◌, ℕ, List, [], ◌∷◌, ◌++◌, map, Bool, true, false, ◌&&◌, not, Option, None, Some, is_none, if◌then◌else◌, refl, sym, ap, subst, ◌∙◌, arith}
+use Rattle.std.proofs.Common.{◌≡◌, ℕ, List, [], ◌∷◌, ◌++◌, map, Bool, true, false, ◌&&◌, not, Option, None, Some, is_none, if◌then◌else◌, refl, sym, ap, ◌∙◌, arith}
 use Rattle.std.proofs.lemmas.List.{append-nil}
 use Rattle.nm_model.specs.declared.document.Document.{Document}
 use Rattle.nm_reader.specs.Blocks.{Blocks, fits, counted, pieces_of, place_after, told}
@@ -20,11 +20,10 @@ use Rattle.nm_reader.specs.declared.fault.Code.{Code}
 use Rattle.nm_reader.specs.declared.fault.Fault.{Fault}
 use Rattle.nm_reader.proofs.Headed.{IsHeaded, headed}
 use Rattle.nm_reader.proofs.Join.{after_blocks, after_pieces, fine_pieces, nothing_plus}
-use Rattle.nm_reader.proofs.Pieces.{fine, fine_start, fine_within}
+use Rattle.nm_reader.proofs.Pieces.{fine, fine_start}
 use Rattle.nm_reader.proofs.Spellings.{and_left, and_right}
 use Rattle.nm_reader.proofs.Split.{Splits, split}
 use Rattle.nm_reader.specs.declared.fact.Fact.{Fact}
-use Rattle.nm_reader.specs.declared.place.Place.{Place}
 use Rattle.nm_reader.specs.declared.place.Place.TheVariants.{BeforeRoot}
 
 -- ---- no fault: no rule applies to a piece, nor to what stands behind the pieces
@@ -41,7 +40,7 @@ and_group : (a b c : Bool) → (a && (b && c)) ≡ (a && b && c)
 and_group true b c = refl
 and_group false b c = refl
 
-faultless : (pieces : List Placed) (context : Context) (end : ℕ) (rest : Rest)
+pub faultless : (pieces : List Placed) (context : Context) (end : ℕ) (rest : Rest)
     → is_none (fault_from context pieces end rest) ≡ (fine context (map piece_placed pieces) && is_none (code_at (after_all context (map piece_placed pieces)) (Left rest)))
 faultless [] context end rest = none_alone end (code_at context (Left rest))
 faultless (placed ∷ others) context end rest =

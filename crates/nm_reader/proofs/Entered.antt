@@ -49,7 +49,7 @@ both a b first second = rw (first, second) refl
 empty_text : is_text [] ≡ true
 empty_text = both (is_utf8 []) (list_all is_character (chars [])) (is_utf8-from_IsUtf8 [] IsUtf8-nil) (ap (λ c. list_all is_character c) chars-nil)
 
-empty_literal : is_literal [] ≡ true
+pub empty_literal : is_literal [] ≡ true
 empty_literal = both (is_text []) true empty_text refl
 
 header_sound : (kind : Kind) (id : Option ℕ) → is_sound_place (inside_of (option_map (header_meaning kind) id)) ≡ true

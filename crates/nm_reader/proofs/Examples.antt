@@ -35,7 +35,7 @@ use Rattle.nm_reader.specs.declared.place.Place.TheVariants.{BeforeRoot, AfterRo
 -- ---- how a piece is written here
 
 -- what is opened for all of them
-reader_on_pieces : Unit {0}
+unfoldable pub reader_on_pieces : Unit {0}
 unfolding code_at is_taken inside_of_tag behind_tag counted_by_tag told_by_tag uuid_of uuid_on_literals
 reader_on_pieces = tt
 
@@ -63,7 +63,7 @@ is name value = record { name = name; value = value }
 abbrev declares : List ℕ → List ℕ → Attribute
 declares prefix namespace = is (prefixed (codes "xmlns") prefix) namespace
 
-abbrev cim_namespace : List ℕ
+abbrev pub cim_namespace : List ℕ
 cim_namespace = codes "http://iec.ch/TC57/2013/CIM-schema-cim16#"
 
 abbrev declarations : List Attribute
@@ -87,10 +87,10 @@ abbrev resource : List ℕ → List Attribute
 resource value = is (rdf (codes "resource")) value ∷ []
 
 -- the UUID of RFC 9562, section 4, and its number
-abbrev uuid : List ℕ
+abbrev pub uuid : List ℕ
 uuid = codes "f81d4fae-7dec-11d0-a765-00a0c91e6bf6"
 
-abbrev number : ℕ
+abbrev pub number : ℕ
 number = 329800735698586629295641978511506172918
 
 abbrev root : Piece
@@ -310,6 +310,22 @@ empty_root_in_the_body : fault_in (body (empty (rdf (codes "RDF")) [] ∷ [])) �
 unfolding reader_on_pieces
 empty_root_in_the_body = refl
 
+empty_root_in_a_header : fault_in (in_header (empty (rdf (codes "RDF")) [] ∷ [])) ≡ fault 2 code.Header
+unfolding reader_on_pieces
+empty_root_in_a_header = refl
+
+empty_root_in_a_section : fault_in (in_difference (opened (dm (codes "preconditions")) [] ∷ empty (rdf (codes "RDF")) [] ∷ [])) ≡ fault 3 code.Header
+unfolding reader_on_pieces
+empty_root_in_a_section = refl
+
+empty_root_in_an_object : fault_in (body (opened (cim (codes "A")) (id (codes "a")) ∷ empty (rdf (codes "RDF")) [] ∷ [])) ≡ fault 3 code.Header
+unfolding reader_on_pieces
+empty_root_in_an_object = refl
+
+empty_root_behind_a_difference : fault_in (in_difference (Close (dm (codes "DifferenceModel")) ∷ empty (rdf (codes "RDF")) [] ∷ [])) ≡ fault 3 code.Header
+unfolding reader_on_pieces
+empty_root_behind_a_difference = refl
+
 empty_root_with_an_attribute : fault_in (body (empty (rdf (codes "RDF")) (id (codes "a")) ∷ [])) ≡ fault 2 code.Attribute
 unfolding reader_on_pieces
 empty_root_with_an_attribute = refl
@@ -383,6 +399,10 @@ language_and_datatype_of_a_property : fault_before Ended (body (opened (cim (cod
 unfolding reader_on_pieces
 language_and_datatype_of_a_property = refl
 
+language_under_another_prefix : fault_before Ended (body (opened (cim (codes "A")) (id (codes "a")) ∷ empty (cim (codes "p")) (declares (codes "x") xml_namespace ∷ is (prefixed (codes "x") (codes "lang")) [] ∷ resource (codes "#b")) ∷ Close (cim (codes "A")) ∷ end_of_root ∷ [])) ≡ None
+unfolding reader_on_pieces
+language_under_another_prefix = refl
+
 language_under_two_prefixes : fault_in (body (opened (cim (codes "A")) (id (codes "a")) ∷ empty (cim (codes "p")) (declares (codes "x") xml_namespace ∷ is (prefixed (codes "x") (codes "lang")) [] ∷ is (prefixed (codes "xml") (codes "lang")) [] ∷ []) ∷ [])) ≡ fault 3 code.Attribute
 unfolding reader_on_pieces
 language_under_two_prefixes = refl
@@ -398,6 +418,10 @@ parse_type_of_a_property = refl
 other_parse_type : fault_in (in_difference (opened (dm (codes "preconditions")) (is (rdf (codes "parseType")) (codes "Resource") ∷ []) ∷ [])) ≡ fault 2 code.Attribute
 unfolding reader_on_pieces
 other_parse_type = refl
+
+twice_on_another_header_property : fault_in (in_header (opened (cim (codes "note")) (resource [] ++ resource []) ∷ [])) ≡ fault 2 code.Attribute
+unfolding reader_on_pieces
+twice_on_another_header_property = refl
 
 attribute_of_another_header_property : fault_in (in_header (opened (cim (codes "note")) (is (rdf (codes "nodeID")) [] ∷ []) ∷ [])) ≡ fault 2 code.Attribute
 unfolding reader_on_pieces
@@ -445,6 +469,10 @@ depends_on_an_empty_resource : fault_in (in_header (empty (md (codes "Model.Depe
 unfolding reader_on_pieces
 depends_on_an_empty_resource = refl
 
+depends_on_an_upper_case_urn : fault_in (in_header (empty (md (codes "Model.DependentOn")) (resource (codes "URN:UUID:" ++ uuid)) ∷ [])) ≡ fault 2 code.Header
+unfolding reader_on_pieces
+depends_on_an_upper_case_urn = refl
+
 supersedes_a_local_name : fault_in (in_header (empty (md (codes "Model.Supersedes")) (resource (codes "#a")) ∷ [])) ≡ fault 2 code.Header
 unfolding reader_on_pieces
 supersedes_a_local_name = refl
@@ -475,7 +503,7 @@ model_in pieces = document_of (after_all beginning pieces).told
 abbrev cim_name : List ℕ → QualifiedName
 cim_name local = record { ns = cim_namespace; local = local }
 
-abbrev bare_header : Header
+abbrev pub bare_header : Header
 bare_header = record {
   id = number;
   created = None;
@@ -488,7 +516,7 @@ bare_header = record {
   supersedes = [];
 }
 
-abbrev full_of : Header → List Statement → Option Document
+abbrev pub full_of : Header → List Statement → Option Document
 full_of header statements = Some (document.Full (record { header = header; statements = statements }))
 
 abbrev states : List ℕ → QualifiedName → Object → Statement

@@ -1,10 +1,12 @@
 -- What the definitions of this crate keep to.
-use Rattle.std.specs.Prelude.{◌≡◌, ◌↔◌, ℕ, List, None, Some}
+use Rattle.std.specs.Prelude.{◌≡◌, ◌↔◌, ℕ, List, true, None, Some, Ok}
+use Rattle.nm_model.specs.Sound.{is_sound_within_limits}
 use Rattle.nm_model.specs.declared.document.Document.{Document}
 use Rattle.nm_reader.specs.Cutting.{Cutting}
 use Rattle.nm_reader.specs.Document.{States}
 use Rattle.nm_reader.specs.Fault.{fault_of}
 use Rattle.nm_reader.specs.Input.{IsDocumentOf, fault_of_input, model_of_input}
+use Rattle.nm_reader.specs.Read.{read_due}
 
 -- pieces state a model exactly where no rule applies to them
 abbrev pub FaultlessPiecesAreDocuments : Type 0
@@ -25,3 +27,11 @@ InputsStateOneModel = (input : List ℕ) (model other : Document) → IsDocument
 -- .. which is what its pieces tell
 abbrev pub ModelsAreTold : Type 0
 ModelsAreTold = (input : List ℕ) (model : Document) → IsDocumentOf input model → model_of_input input ≡ Some model
+
+-- reading an input is due the model that it states, where it states one
+abbrev pub DocumentsAreRead : Type 0
+DocumentsAreRead = (input : List ℕ) (model : Document) → (read_due input ≡ Ok model) ↔ IsDocumentOf input model
+
+-- and the model can be kept
+abbrev pub StatedModelsAreKept : Type 0
+StatedModelsAreKept = (input : List ℕ) (model : Document) → IsDocumentOf input model → is_sound_within_limits model ≡ true

@@ -3,6 +3,7 @@ pub mod Limits
 pub mod Namespaces
 pub mod Model
 pub mod Place
+pub mod Leading
 pub mod Meaning
 pub mod Tag
 pub mod Texts
@@ -11,9 +12,11 @@ pub mod Document
 pub mod Context
 pub mod Rules
 pub mod Fault
-pub mod Laws
+pub mod Code
 pub mod Input
 pub mod Seen
 pub mod Taken
 pub mod Shape
 pub mod Draft
+pub mod Read
+pub mod Laws

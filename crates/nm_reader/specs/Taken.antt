@@ -26,7 +26,7 @@ use Rattle.nm_reader.specs.Place.{place_behind}
 use Rattle.nm_piece.specs.declared.piece.QName.{QName}
 use Rattle.nm_reader.specs.declared.opened.Declaration.{Declaration}
 use Rattle.nm_reader.specs.Namespaces.{are_spelt_once, has_declared_prefixes, has_namespace}
-use Rattle.nm_reader.specs.Rules.{role_judged}
+use Rattle.nm_reader.specs.Rules.{is_misplaced_text, passes_literal, role_judged}
 use Rattle.nm_reader.specs.Shape.{limit_code, or_code, shape_code, value_code}
 use Rattle.nm_reader.specs.Tag.{Tag, counted_by_tag, element_of, given_of, meaning_of_tag, role_of_tag, scope_of}
 use Rattle.nm_reader.specs.declared.counts.Counts.{Counts}
@@ -88,3 +88,13 @@ entered_by context name declared judged = record {
   counted = judged.counted;
   begun = true;
 }
+
+-- the code of a text in its place
+abbrev pub text_code : Place → List ℕ → Option Code
+text_code place text =
+    if passes_literal place text then Some code.Limit else if is_misplaced_text place text then Some code.Text else None
+
+-- the rule that a text breaks; want of memory says nothing
+abbrev pub IsTextRefusal : Refusal → Place → List ℕ → Type 0
+IsTextRefusal (refusal.Rule code) place text = text_code place text ≡ Some code
+IsTextRefusal refusal.NoMemory place text = Unit {0}

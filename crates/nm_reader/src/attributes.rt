@@ -9,7 +9,7 @@ ghost use Rattle.std.specs.Option.{option_map};
 ghost use Rattle.std.specs.Prelude.{◌≡◌, ◌++◌, ◌∷◌, IfOk, codes, map, nat_le, length};
 
 use crate::namespaces::{XML_NAMESPACE, attribute_namespace, is_declaration};
-use crate::opened::{Declaration, Opened};
+use crate::opened::{Declarations, Opened};
 use crate::place::Role;
 use nm_ident::{NoMemory, RDF_NAMESPACE};
 use nm_piece::Attribute;
@@ -36,7 +36,7 @@ pub enum Allowed {
 /// The attributes of a tag that are no declarations.
 pub fn given_by<'a>(
     alloc: Global,
-    own: &'a [Declaration],
+    own: &'a Declarations,
     elements: &'a [Opened],
     attributes: &'a [Attribute],
 ) -> Result<Vec<GivenAttribute<'a>>, NoMemory>

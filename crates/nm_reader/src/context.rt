@@ -1,31 +1,36 @@
 // What the pieces before a place leave there, and what the next piece does.
 ghost use Rattle.nm_ident.specs.Name.{is_name};
 ghost use Rattle.nm_ident.specs.QualifiedName.{QualifiedName};
+ghost use Rattle.nm_piece.specs.Raw.{name_of};
+ghost use Rattle.nm_piece.specs.Token.{piece_of};
 ghost use Rattle.nm_piece.specs.declared.piece.Piece.TheVariants as piece;
 ghost use Rattle.nm_reader.specs.Document as document;
 ghost use Rattle.nm_reader.specs.Limits as limits;
 ghost use Rattle.nm_reader.specs.Meaning.{listed};
+ghost use Rattle.nm_reader.specs.Model.{document_of};
 ghost use Rattle.nm_reader.specs.Namespaces.{same_name};
 ghost use Rattle.nm_reader.specs.Place as places;
 ghost use Rattle.nm_reader.specs.Rules as rules;
 ghost use Rattle.nm_reader.specs.Taken as spec;
 ghost use Rattle.nm_text.specs.Characters.{is_text};
-ghost use Rattle.std.specs.Prelude.{◌≡◌, ◌&&◌, ◌++◌, MatchResult, OnOk, not, true};
+ghost use Rattle.std.specs.Option.{option_map};
+ghost use Rattle.std.specs.Prelude.{◌≡◌, ◌&&◌, ◌++◌, IfOk, MatchResult, OnOk, not, true};
 
+use crate::assembly;
 use crate::counts::Counts;
 use crate::fact::Fact;
 use crate::fault::Code;
 use crate::judging::{Judged, judge, place_behind};
 use crate::meaning::Meaning;
-use crate::namespaces::{declared_by, same_spelling};
-use crate::opened::{Declaration, Declarations, Opened};
+use crate::names::Names;
+use crate::namespaces::{declared_by, is_spelt};
+use crate::opened::{Declarations, Opened};
 use crate::place::Place;
 use crate::refusal::Refusal;
-use crate::texts::{
-    is_after_root, is_misplaced_text, may_end, passes_literal, told_at_end, with_text,
-};
-use nm_ident::{NoMemory, Text};
-use nm_piece::{Attribute, Piece, QName};
+use crate::texts::{is_after_root, may_end, told_at_end, with_text};
+use nm_ident::NoMemory;
+use nm_model::Document;
+use nm_piece::{Attribute, QName, RawName, RawText, Token};
 use std::alloc::Global;
 use std::marker::Model;
 use std::mem;
@@ -38,6 +43,8 @@ pub struct Reader {
     told: Vec<Fact>,
     counted: Counts,
     begun: bool,
+    // Names that were made on the way, which say nothing of the document.
+    names: Names,
 }
 
 impl Model for Reader {
@@ -72,6 +79,7 @@ impl Reader {
                 superseded: 0,
             },
             begun: false,
+            names: Names::new(alloc),
         }
     }
 
@@ -85,8 +93,8 @@ impl Reader {
 
     #[tactic(auto, unfolding(crate::specs::Rules::code_at))]
     /// Takes an XML declaration.
-    pub fn take_start(&mut self, encoding: &Option<Text>) -> Result<(), Refusal>
-        ensures { MatchResult result (λ _. spec.IsBehind self.old (piece.Start encoding.now) self.new) (λ refusal. spec.IsRefusal refusal self.old (piece.Start encoding.now)) }
+    pub fn take_start(&mut self, encoding: Option<&[u8]>) -> Result<(), Refusal>
+        ensures { MatchResult result (λ _. spec.IsBehind self.old (piece.Start (option_map (λ e. e.now) encoding.entry)) self.new) (λ refusal. spec.IsRefusal refusal self.old (piece.Start (option_map (λ e. e.now) encoding.entry))) }
     {
         if self.begun {
             return Err(Refusal::Rule(Code::Stray));
@@ -100,24 +108,18 @@ impl Reader {
 
     #[tactic(auto, using(crate::proofs::Joined::sound_with_text), unfolding(crate::specs::Rules::code_at))]
     /// Takes a text.
-    pub fn take_text(&mut self, text: &Text) -> Result<(), Refusal>
+    pub fn take_text(&mut self, alloc: Global, text: &RawText<'_>) -> Result<(), Refusal>
         requires { is_text text.now ≡ true }
         ensures { MatchResult result (λ _. spec.IsBehind self.old (piece.Text text.now) self.new) (λ refusal. spec.IsRefusal refusal self.old (piece.Text text.now)) }
     {
-        if passes_literal(&self.place, text.as_slice()) {
-            return Err(Refusal::Rule(Code::Limit));
-        }
-        if is_misplaced_text(&self.place, text.as_slice()) {
-            return Err(Refusal::Rule(Code::Text));
-        }
         let place = mem::replace(&mut self.place, Place::InSkipped);
-        self.place = with_text(place, text.as_slice())?;
+        self.place = with_text(alloc, place, text)?;
         self.begun = true;
         Ok(())
     }
 
     /// Leaves the innermost element, which is open.
-    fn leave(&mut self, alloc: Global) -> Result<(), NoMemory>
+    fn leave(&mut self) -> Result<(), NoMemory>
         ensures { OnOk result (self.new ≡ left self.old) }
     {
         self.begun = true;
@@ -126,26 +128,23 @@ impl Reader {
         }
         let opened = self.elements.remove(0);
         let place = mem::replace(&mut self.place, opened.behind);
-        if let Some(fact) = told_at_end(alloc, place)? {
-            self.told.push(fact)?;
-        }
-        Ok(())
+        self.tell(told_at_end(place))
     }
 
     /// Whether the innermost element has a name that is spelt so.
-    fn closes(&self, name: &QName) -> bool
-        ensures { result ≡ rules.closes name.now self.now.elements }
+    fn closes(&self, name: &RawName<'_>) -> bool
+        ensures { result ≡ rules.closes (name_of name.now) self.now.elements }
     {
         match self.elements.first() {
-            Some(opened) => same_spelling(&opened.name, name),
+            Some(opened) => is_spelt(&opened.name, name),
             None => false,
         }
     }
 
     #[tactic(auto, unfolding(crate::specs::Rules::code_at))]
     /// Takes a closing tag.
-    pub fn take_close(&mut self, alloc: Global, name: &QName) -> Result<(), Refusal>
-        ensures { MatchResult result (λ _. spec.IsBehind self.old (piece.Close name.now) self.new) (λ refusal. spec.IsRefusal refusal self.old (piece.Close name.now)) }
+    pub fn take_close(&mut self, name: &RawName<'_>) -> Result<(), Refusal>
+        ensures { MatchResult result (λ _. spec.IsBehind self.old (piece.Close (name_of name.now)) self.new) (λ refusal. spec.IsRefusal refusal self.old (piece.Close (name_of name.now))) }
     {
         if !self.closes(name) {
             return Err(Refusal::Rule(Code::Nesting));
@@ -153,7 +152,7 @@ impl Reader {
         if !may_end(&self.place) {
             return Err(Refusal::Rule(Code::Header));
         }
-        self.leave(alloc)?;
+        self.leave()?;
         Ok(())
     }
 
@@ -169,10 +168,10 @@ impl Reader {
 
     #[tactic(auto, using(crate::proofs::Entered::behind_sound))]
     /// Goes into an element.
-    fn enter(&mut self, name: QName, own: Vec<Declaration>, judged: Judged) -> Result<(), NoMemory>
+    fn enter(&mut self, name: QName, own: Declarations, judged: Judged) -> Result<(), NoMemory>
         requires counted { limits.is_within_limits judged.counted ≡ true }
         requires inside { spec.is_sound_place judged.meaning.inside ≡ true }
-        ensures { OnOk result (self.new ≡ spec.entered_by self.old name own.items judged) }
+        ensures { OnOk result (self.new ≡ spec.entered_by self.old name own judged) }
     {
         let Judged {
             role,
@@ -189,7 +188,7 @@ impl Reader {
         let opened = Opened {
             name,
             behind: place_behind(role, outside),
-            declared: Declarations::of_list(own),
+            declared: own,
         };
         self.elements.insert(0, opened)?;
         self.counted = counted;
@@ -209,9 +208,10 @@ impl Reader {
         requires { is_name name.local ≡ true }
         ensures { MatchResult result (λ _. spec.IsBehind self.old (piece.Open name attributes.now empty) self.new) (λ refusal. spec.IsRefusal refusal self.old (piece.Open name attributes.now empty)) }
     {
-        let own = declared_by(alloc, attributes)?;
+        let own = Declarations::of_list(alloc, declared_by(alloc, attributes)?)?;
         let judged = judge(
             alloc,
+            &mut self.names,
             &self.place,
             &self.elements,
             &own,
@@ -222,32 +222,44 @@ impl Reader {
         )?;
         self.enter(name, own, judged)?;
         if empty {
-            self.leave(alloc)?;
+            self.leave()?;
         }
         Ok(())
     }
 
     #[tactic(auto, unfolding(crate::specs::Rules::code_at))]
-    /// Takes the next piece. After a refusal the context is not used again.
-    pub fn take(&mut self, alloc: Global, piece: Piece) -> Result<(), Refusal>
-        requires { spec.is_sound_piece piece ≡ true }
-        ensures { MatchResult result (λ _. spec.IsBehind self.old piece self.new) (λ refusal. spec.IsRefusal refusal self.old piece) }
+    /// Takes the next piece, where it stands in the input. After a refusal the context is not used
+    /// again.
+    pub fn take_token(&mut self, alloc: Global, token: Token<'_>) -> Result<(), Refusal>
+        requires { spec.is_sound_piece (piece_of token) ≡ true }
+        ensures { MatchResult result (λ _. spec.IsBehind self.old (piece_of token.entry) self.new) (λ refusal. spec.IsRefusal refusal self.old (piece_of token.entry)) }
     {
-        match piece {
-            Piece::Start { encoding } => self.take_start(&encoding),
-            Piece::Doctype => Err(Refusal::Rule(Code::Doctype)),
-            Piece::Open {
+        match token {
+            Token::Start { encoding } => self.take_start(encoding),
+            Token::Doctype => Err(Refusal::Rule(Code::Doctype)),
+            Token::Open {
                 name,
                 attributes,
                 empty,
-            } => self.take_open(alloc, name, attributes.as_slice(), empty),
-            Piece::Close { name } => self.take_close(alloc, &name),
-            Piece::Text(text) => self.take_text(&text),
-            Piece::Skip => {
+            } => {
+                let name = name.to_qname(alloc)?;
+                let attributes = attributes.to_list(alloc)?;
+                self.take_open(alloc, name, attributes.as_slice(), empty)
+            }
+            Token::Close { name } => self.take_close(&name),
+            Token::Text(text) => self.take_text(alloc, &text),
+            Token::Skip => {
                 self.take_skip();
                 Ok(())
             }
         }
+    }
+
+    /// The model that has been told, where a header came first.
+    pub fn into_document(self, alloc: Global) -> Result<Option<Document>, NoMemory>
+        ensures { IfOk result (λ model. model ≡ document_of self.told) }
+    {
+        assembly::document_of(alloc, self.told)
     }
 
     /// Whether the document may end here: its root is behind, and no element is open.
@@ -259,11 +271,11 @@ impl Reader {
 }
 
 /// Whether the encoding is UTF-8 in any letter case, or none is named.
-fn is_read_encoding(encoding: &Option<Text>) -> bool
-    ensures { result ≡ document.is_read_encoding encoding.now }
+fn is_read_encoding(encoding: Option<&[u8]>) -> bool
+    ensures { result ≡ document.is_read_encoding (option_map (λ e. e.now) encoding.entry) }
 {
     match encoding {
-        Some(encoding) => encoding.as_slice().eq_ignore_ascii_case(b"UTF-8"),
+        Some(encoding) => encoding.eq_ignore_ascii_case(b"UTF-8"),
         None => true,
     }
 }

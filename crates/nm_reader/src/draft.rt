@@ -11,18 +11,18 @@ use std::marker::Model;
 /// What has been told of a model so far.
 #[derive(Drop)]
 pub struct Draft {
-    created: Option<Literal>,
-    scenario_time: Option<Literal>,
-    version: Option<Literal>,
-    description: Option<Literal>,
-    authority: Option<Literal>,
-    profiles: Vec<Text>,
-    depends: Vec<u128>,
-    supersedes: Vec<u128>,
-    whole: Vec<Statement>,
-    preconditions: Vec<Statement>,
-    forward: Vec<Statement>,
-    reverse: Vec<Statement>,
+    pub created: Option<Literal>,
+    pub scenario_time: Option<Literal>,
+    pub version: Option<Literal>,
+    pub description: Option<Literal>,
+    pub authority: Option<Literal>,
+    pub profiles: Vec<Text>,
+    pub depends: Vec<u128>,
+    pub supersedes: Vec<u128>,
+    pub whole: Vec<Statement>,
+    pub preconditions: Vec<Statement>,
+    pub forward: Vec<Statement>,
+    pub reverse: Vec<Statement>,
 }
 
 impl Model for Draft {

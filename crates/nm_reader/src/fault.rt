@@ -1,4 +1,6 @@
 // Why a document is refused.
+ghost use Rattle.nm_reader.specs.Code.{code_text};
+ghost use Rattle.std.specs.Prelude.{◌≡◌};
 
 /// Where a document is at fault, and why.
 #[derive(Debug, Clone, Copy, Drop, PartialEq, Eq)]
@@ -38,4 +40,27 @@ pub enum Code {
     Limit = 12,
     /// The input ends inside the document.
     Cut = 13,
+}
+
+impl Code {
+    /// The name of the code in lower case, as `piece` or `doctype`.
+    pub fn text(self) -> &'static [u8]
+        ensures { result.now ≡ code_text self }
+    {
+        match self {
+            Code::Piece => b"piece",
+            Code::Doctype => b"doctype",
+            Code::Encoding => b"encoding",
+            Code::Nesting => b"nesting",
+            Code::Prefix => b"prefix",
+            Code::Namespace => b"namespace",
+            Code::Attribute => b"attribute",
+            Code::Identifier => b"identifier",
+            Code::Text => b"text",
+            Code::Header => b"header",
+            Code::Stray => b"stray",
+            Code::Limit => b"limit",
+            Code::Cut => b"cut",
+        }
+    }
 }

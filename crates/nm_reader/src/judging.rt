@@ -17,8 +17,9 @@ use crate::counts::Counts;
 use crate::fact::{Fact, Kind};
 use crate::fault::Code;
 use crate::meaning::{Meaning, meaning_of};
+use crate::names::Names;
 use crate::namespaces::{are_spelt_once, element_namespace, has_declared_prefixes};
-use crate::opened::{Declaration, Opened};
+use crate::opened::{Declarations, Opened};
 use crate::place::{Place, Role};
 use crate::refusal::Refusal;
 use crate::roles::role_of;
@@ -160,9 +161,10 @@ pub fn place_behind(role: Role, place: Place) -> Place
 /// is what the tag declares itself.
 pub fn judge(
     alloc: Global,
+    names: &mut Names,
     place: &Place,
     elements: &[Opened],
-    own: &[Declaration],
+    own: &Declarations,
     name: &QName,
     attributes: &[Attribute],
     empty: bool,
@@ -178,7 +180,7 @@ pub fn judge(
     let local = name.local.as_slice();
     let role = role_of(place, ns, local);
     let judged = role_at(role, empty && is_root_name(ns, local));
-    let once = are_spelt_once(attributes);
+    let once = are_spelt_once(alloc, attributes)?;
     let declared = has_declared_prefixes(own, elements, name, attributes);
     let kept = is_namespace(ns);
     let given = given_by(alloc, own, elements, attributes)?;
@@ -186,7 +188,7 @@ pub fn judge(
     if let Some(code) = shape_code(judged, once, declared, kept, allowed) {
         return Err(Refusal::Rule(code));
     }
-    let meant = meaning_of(alloc, place, role, ns, local, &given)?;
+    let meant = meaning_of(alloc, names, place, role, ns, local, &given)?;
     if let Some(code) = value_code(judged, meant.is_some()) {
         return Err(Refusal::Rule(code));
     }

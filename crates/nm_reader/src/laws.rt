@@ -6,6 +6,8 @@ pub fn documents_have_no_fault()
     ensures faultless { law.DocumentsHaveNoFault }
     ensures one { law.InputsStateOneModel }
     ensures told { law.ModelsAreTold }
+    ensures read { law.DocumentsAreRead }
+    ensures kept { law.StatedModelsAreKept }
 {}
 
 /// The same of pieces, whatever bytes they were cut from.

@@ -13,8 +13,9 @@ ghost use Rattle.std.specs.Prelude.{◌≡◌, ◌++◌, IfOk, Some, true};
 use crate::attributes::{GivenAttribute, rdf_value};
 use crate::counts::Counts;
 use crate::fact::{Fact, Kind, LinkProperty, Part, TextProperty};
+use crate::names::Names;
 use crate::place::{Owner, Place, Role};
-use nm_ident::{Ident, IdentError, Name, NameError, NoMemory, RDF_NAMESPACE, Target, Text};
+use nm_ident::{Ident, IdentError, Name, NoMemory, RDF_NAMESPACE, Target, Text};
 use nm_statement::{Object, Statement};
 use std::alloc::Global;
 
@@ -83,18 +84,6 @@ fn linked_by(alloc: Global, given: &[GivenAttribute<'_>]) -> Result<Option<u128>
     match target_of(alloc, resource)? {
         Some(Target::Ident(Ident::Uuid(id))) => Ok(Some(id)),
         _ => Ok(None),
-    }
-}
-
-/// The name of a property.
-fn predicate(alloc: Global, ns: &[u8], local: &[u8]) -> Result<Name, NoMemory>
-    requires { is_predicate (record { ns = ns.now; local = local.now }) ≡ true }
-    ensures { IfOk result (λ name. name ≡ record { ns = ns.now; local = local.now }) }
-{
-    match Name::new(alloc, ns, local) {
-        Ok(name) => Ok(name),
-        Err(NameError::NoMemory) => Err(NoMemory),
-        Err(NameError::Bad) => unreachable!(),
     }
 }
 
@@ -227,6 +216,7 @@ fn class_of(alloc: Global, ns: &[u8], local: &[u8]) -> Result<Text, NoMemory>
 /// An object's element states its class, unless it is an `rdf:Description`.
 fn object(
     alloc: Global,
+    names: &mut Names,
     part: Part,
     ns: &[u8],
     local: &[u8],
@@ -239,7 +229,7 @@ fn object(
     }
     let statement = Statement {
         subject: subject.copy(alloc)?,
-        predicate: predicate(alloc, RDF_NAMESPACE, b"type")?,
+        predicate: names.predicate(alloc, RDF_NAMESPACE, b"type")?,
         object: Object::Iri(class_of(alloc, ns, local)?),
     };
     Ok(Meaning {
@@ -296,6 +286,7 @@ fn literal(alloc: Global, part: Part, subject: &Ident, predicate: Name) -> Resul
 /// A property states its `rdf:resource`, or else the literal inside it.
 fn property(
     alloc: Global,
+    names: &mut Names,
     place: &Place,
     ns: &[u8],
     local: &[u8],
@@ -308,14 +299,14 @@ fn property(
         return Ok(None);
     };
     match rdf_value(b"resource", given) {
-        None => Ok(Some(literal(alloc, *part, subject, predicate(alloc, ns, local)?)?)),
+        None => Ok(Some(literal(alloc, *part, subject, names.predicate(alloc, ns, local)?)?)),
         Some(resource) => match target_of(alloc, resource)? {
             None => Ok(None),
             Some(target) => Ok(Some(link(
                 alloc,
                 *part,
                 subject,
-                predicate(alloc, ns, local)?,
+                names.predicate(alloc, ns, local)?,
                 target,
             )?)),
         },
@@ -325,6 +316,7 @@ fn property(
 /// What an element means in its role; nothing where its attributes make no sense there.
 pub fn meaning_of(
     alloc: Global,
+    names: &mut Names,
     place: &Place,
     role: Role,
     ns: &[u8],
@@ -342,10 +334,10 @@ pub fn meaning_of(
         Role::OtherProperty => Ok(Some(only_inside(Place::InSkipped))),
         Role::SectionElement { part } => Ok(Some(only_inside(Place::InSection { part }))),
         Role::ObjectElement { part } => match identity_of(alloc, given)? {
-            Some(subject) => Ok(Some(object(alloc, part, ns, local, subject)?)),
+            Some(subject) => Ok(Some(object(alloc, names, part, ns, local, subject)?)),
             None => Ok(None),
         },
-        Role::PropertyElement => property(alloc, place, ns, local, given),
+        Role::PropertyElement => property(alloc, names, place, ns, local, given),
         Role::EmptyRoot | Role::NoHeader | Role::Stray | Role::Nested => Ok(None),
     }
 }

@@ -1,14 +1,24 @@
 // What a tag declares, and what names mean (Namespaces in XML, sections 3 to 6).
+ghost use Rattle.nm_piece.specs.Raw.{name_of as written};
 ghost use Rattle.nm_reader.specs.Context.{scope_in};
 ghost use Rattle.nm_reader.specs.Namespaces as spec;
+ghost use Rattle.nm_reader.specs.Seen.{named, spelt};
 ghost use Rattle.std.specs.List.{list_any, list_all};
 ghost use Rattle.std.specs.Option.{option_map};
-ghost use Rattle.std.specs.Prelude.{◌≡◌, ◌++◌, IfOk, Some, codes, is_some};
+ghost use Rattle.std.specs.Prelude.{◌≡◌, ◌++◌, IfOk, Some, codes, is_some, map};
 
-use crate::opened::{Declaration, Opened};
+use crate::distinct::are_distinct;
+use crate::opened::{Declaration, Declarations, Opened};
 use nm_ident::{NoMemory, Text};
-use nm_piece::{Attribute, QName};
+use nm_piece::{Attribute, QName, RawName};
 use std::alloc::Global;
+
+/// From how many on the attributes of a tag are put in order, so that those that are spelt alike stand
+/// side by side.
+const MANY: usize = 16;
+
+/// A name as it is spelt: its prefix, and what stands behind that.
+type Spelling<'a> = (Option<&'a [u8]>, &'a [u8]);
 
 /// The namespace of the prefix `xml` (Namespaces in XML, section 3).
 pub const XML_NAMESPACE: &[u8] = b"http://www.w3.org/XML/1998/namespace";
@@ -27,14 +37,34 @@ fn same_prefix(x: &Option<Text>, y: &Option<Text>) -> bool
 }
 
 /// Whether the names are spelt alike.
-pub fn same_spelling(x: &QName, y: &QName) -> bool
+fn same_spelling(x: &QName, y: &QName) -> bool
     ensures { result ≡ spec.same_spelling x.now y.now }
 {
     same_prefix(&x.prefix, &y.prefix) && x.local.as_slice() == y.local.as_slice()
 }
 
+/// Whether the name is spelt so.
+pub fn is_spelt(name: &QName, spelling: &RawName<'_>) -> bool
+    ensures { result ≡ spec.same_spelling name.now (written spelling.now) }
+{
+    is_spelt_prefix(&name.prefix, spelling.prefix) && name.local.as_slice() == spelling.local
+}
+
+/// Whether the prefix is spelt so, or both are wanting.
+fn is_spelt_prefix(prefix: &Option<Text>, spelling: Option<&[u8]>) -> bool
+    ensures { result ≡ spec.same_prefix prefix.now (option_map (λ s. s.now) spelling.entry) }
+{
+    match prefix {
+        Some(prefix) => match spelling {
+            Some(spelling) => prefix.as_slice() == spelling,
+            None => false,
+        },
+        None => spelling.is_none(),
+    }
+}
+
 /// The namespace that the first of the declarations of a prefix gives it.
-fn declared<'a>(declarations: &'a [Declaration], prefix: &Option<Text>) -> Option<&'a [u8]>
+pub fn declared<'a>(declarations: &'a [Declaration], prefix: &Option<Text>) -> Option<&'a [u8]>
     ensures { option_map (λ namespace. namespace.now) result ≡ spec.declared declarations.now prefix.now }
 {
     let mut rest = declarations;
@@ -72,7 +102,7 @@ fn in_force<'a>(elements: &'a [Opened], prefix: &Option<Text>) -> Option<&'a [u8
 {
     let mut rest = elements;
     while let [opened, outer @ ..] = rest {
-        match declared(opened.declared.as_slice(), prefix) {
+        match opened.declared.find(prefix) {
             Some(namespace) => return Some(namespace),
             None => rest = outer,
         }
@@ -93,7 +123,7 @@ fn is_xml(prefix: &Option<Text>) -> bool
 #[tactic(auto, using(crate::proofs::Scopes::declared_first, crate::proofs::Scopes::declared_later))]
 /// The namespace of a prefix by a tag's own declarations and those of the open elements.
 pub fn namespace_of<'a>(
-    own: &'a [Declaration],
+    own: &'a Declarations,
     elements: &'a [Opened],
     prefix: &Option<Text>,
 ) -> Option<&'a [u8]>
@@ -102,7 +132,7 @@ pub fn namespace_of<'a>(
     if is_xml(prefix) {
         return Some(XML_NAMESPACE);
     }
-    match declared(own, prefix) {
+    match own.find(prefix) {
         Some(namespace) => Some(namespace),
         None => in_force(elements, prefix),
     }
@@ -110,7 +140,7 @@ pub fn namespace_of<'a>(
 
 /// The namespace of an element: empty where it has none.
 pub fn element_namespace<'a>(
-    own: &'a [Declaration],
+    own: &'a Declarations,
     elements: &'a [Opened],
     name: &QName,
 ) -> &'a [u8]
@@ -124,7 +154,7 @@ pub fn element_namespace<'a>(
 
 /// The namespace of an attribute: empty where it has none.
 pub fn attribute_namespace<'a>(
-    own: &'a [Declaration],
+    own: &'a Declarations,
     elements: &'a [Opened],
     prefix: &Option<Text>,
 ) -> &'a [u8]
@@ -140,14 +170,14 @@ pub fn attribute_namespace<'a>(
 }
 
 /// Whether the prefix is declared; a name without one needs no declaration.
-fn is_declared(own: &[Declaration], elements: &[Opened], prefix: &Option<Text>) -> bool
+fn is_declared(own: &Declarations, elements: &[Opened], prefix: &Option<Text>) -> bool
     ensures { result ≡ spec.is_declared (own.now ++ scope_in elements.now) prefix.now }
 {
     prefix.is_none() || namespace_of(own, elements, prefix).is_some()
 }
 
 /// Whether the attribute is an allowed declaration, or else has a declared prefix or none.
-fn has_declared_prefix(own: &[Declaration], elements: &[Opened], attribute: &Attribute) -> bool
+fn has_declared_prefix(own: &Declarations, elements: &[Opened], attribute: &Attribute) -> bool
     ensures { result ≡ spec.has_declared_prefix (spec.declaration_of attribute.now) (own.now ++ scope_in elements.now) attribute.now }
 {
     match &attribute.name.prefix {
@@ -160,7 +190,7 @@ fn has_declared_prefix(own: &[Declaration], elements: &[Opened], attribute: &Att
 
 /// Whether every prefix of a tag is declared, and each of its declarations is allowed.
 pub fn has_declared_prefixes(
-    own: &[Declaration],
+    own: &Declarations,
     elements: &[Opened],
     name: &QName,
     attributes: &[Attribute],
@@ -170,11 +200,7 @@ pub fn has_declared_prefixes(
     is_declared(own, elements, &name.prefix) && have_declared_prefixes(own, elements, attributes)
 }
 
-fn have_declared_prefixes(
-    own: &[Declaration],
-    elements: &[Opened],
-    attributes: &[Attribute],
-) -> bool
+fn have_declared_prefixes(own: &Declarations, elements: &[Opened], attributes: &[Attribute]) -> bool
     ensures { result ≡ list_all (λ attribute. spec.has_declared_prefix (spec.declaration_of attribute) (own.now ++ scope_in elements.now) attribute) attributes.now }
 {
     attributes
@@ -192,7 +218,18 @@ fn is_repeated(attribute: &Attribute, others: &[Attribute]) -> bool
 }
 
 /// Whether no attribute of a tag is spelt twice.
-pub fn are_spelt_once(attributes: &[Attribute]) -> bool
+pub fn are_spelt_once(alloc: Global, attributes: &[Attribute]) -> Result<bool, NoMemory>
+    ensures { IfOk result (λ once. once ≡ spec.are_spelt_once attributes.now) }
+{
+    if attributes.len() < MANY {
+        Ok(are_few_spelt_once(attributes))
+    } else {
+        are_many_spelt_once(alloc, attributes)
+    }
+}
+
+/// The same by comparing each two of them.
+fn are_few_spelt_once(attributes: &[Attribute]) -> bool
     ensures { result ≡ spec.are_spelt_once attributes.now }
 {
     let mut rest = attributes;
@@ -203,6 +240,38 @@ pub fn are_spelt_once(attributes: &[Attribute]) -> bool
         rest = others;
     }
     true
+}
+
+/// The same by sorting their names.
+fn are_many_spelt_once(alloc: Global, attributes: &[Attribute]) -> Result<bool, NoMemory>
+    ensures { IfOk result (λ once. once ≡ spec.are_spelt_once attributes.now) }
+{
+    Ok(are_distinct(spellings_of(alloc, attributes)?))
+}
+
+/// The names of attributes, as they are spelt.
+fn spellings_of<'a>(
+    alloc: Global,
+    attributes: &'a [Attribute],
+) -> Result<Vec<Spelling<'a>>, NoMemory>
+    ensures { IfOk result (λ spellings. map spelt spellings.items ≡ map named attributes.now) }
+{
+    let mut spellings = Vec::with_capacity(alloc, attributes.len())?;
+    let mut rest = attributes;
+    while let [attribute, others @ ..] = rest {
+        spellings.push(spelling_of(&attribute.name))?;
+        rest = others;
+    }
+    Ok(spellings)
+}
+
+fn spelling_of(name: &QName) -> Spelling<'_>
+    ensures { spelt result ≡ name.now }
+{
+    match &name.prefix {
+        Some(prefix) => (Some(prefix.as_slice()), name.local.as_slice()),
+        None => (None, name.local.as_slice()),
+    }
 }
 
 /// What the attributes of a tag declare.

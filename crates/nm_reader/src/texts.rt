@@ -1,44 +1,24 @@
 // Texts in their places.
 ghost use Rattle.nm_reader.specs.Meaning.{listed, told_at_end as told_at_end_of};
-ghost use Rattle.nm_reader.specs.Rules.{is_misplaced_text as is_misplaced, passes_literal as passes};
-ghost use Rattle.nm_reader.specs.Taken.{is_sound_place};
+ghost use Rattle.nm_reader.specs.Taken.{IsTextRefusal, is_sound_place, text_code};
 ghost use Rattle.nm_reader.specs.Texts as spec;
-ghost use Rattle.nm_statement.specs.Literal.{is_literal as is_sound_literal};
-ghost use Rattle.std.specs.Prelude.{◌≡◌, IfOk, true};
+ghost use Rattle.std.specs.Prelude.{◌≡◌, MatchResult, None, true};
 
 use crate::fact::Fact;
+use crate::fault::Code;
 use crate::place::{Owner, Place};
-use nm_ident::{NoMemory, Text};
-use nm_statement::{LONGEST_LITERAL, Literal, Object, Statement, TextError};
-use nm_text::is_white_text;
+use crate::refusal::Refusal;
+use nm_ident::Text;
+use nm_piece::RawText;
+use nm_statement::{LONGEST_LITERAL, Literal, Object, Statement};
 use std::alloc::Global;
 
-/// Whether a literal gets too long with the text.
-pub fn passes_literal(place: &Place, text: &[u8]) -> bool
-    requires { is_sound_place place.now ≡ true }
-    ensures { result ≡ passes place.now text.now }
-{
-    match place {
-        Place::InLiteral { text: before, .. } => {
-            text.len() > LONGEST_LITERAL - before.as_slice().len()
-        }
-        _ => false,
-    }
-}
-
-/// Whether text that is not white stands where none may stand.
-pub fn is_misplaced_text(place: &Place, text: &[u8]) -> bool
-    ensures { result ≡ is_misplaced place.now text.now }
-{
-    match place {
-        Place::InLiteral { .. } | Place::InSkipped => false,
-        _ => !is_white_text(text),
-    }
-}
-
-/// The place behind the text: a literal is all the texts inside its element, joined.
-pub fn with_text(place: Place, text: &[u8]) -> Result<Place, NoMemory>
-    ensures { IfOk result (λ behind. behind ≡ spec.with_text place text.now) }
+/// The place behind the text: a literal is all the texts inside its element, joined. Elsewhere a text
+/// is white, but inside a property that is not kept.
+pub fn with_text(alloc: Global, place: Place, text: &RawText<'_>) -> Result<Place, Refusal>
+    ensures { MatchResult result
+        (λ behind. (text_code place text.now ≡ None) × (behind ≡ spec.with_text place text.now))
+        (λ refusal. IsTextRefusal refusal place text.now) }
 {
     match place {
         Place::InLiteral {
@@ -46,13 +26,23 @@ pub fn with_text(place: Place, text: &[u8]) -> Result<Place, NoMemory>
             text: before,
         } => {
             let mut bytes = before.into_list();
-            bytes.extend_from_slice(text)?;
+            text.append_to(&mut bytes)?;
+            if bytes.len() > LONGEST_LITERAL {
+                return Err(Refusal::Rule(Code::Limit));
+            }
             Ok(Place::InLiteral {
                 owner,
                 text: Text::of_list(bytes),
             })
         }
-        _ => Ok(place),
+        Place::InSkipped => Ok(Place::InSkipped),
+        _ => {
+            if text.is_white(alloc)? {
+                Ok(place)
+            } else {
+                Err(Refusal::Rule(Code::Text))
+            }
+        }
     }
 }
 
@@ -70,27 +60,15 @@ pub fn is_after_root(place: &Place) -> bool
     matches!(place, Place::AfterRoot)
 }
 
-/// The literal of a text that is one.
-fn literal_of(alloc: Global, text: Text) -> Result<Literal, NoMemory>
-    requires { is_sound_literal text ≡ true }
-    ensures { IfOk result (λ literal. literal ≡ text) }
-{
-    match Literal::new(alloc, text.as_slice()) {
-        Ok(literal) => Ok(literal),
-        Err(TextError::NoMemory) => Err(NoMemory),
-        Err(TextError::Bad | TextError::Long) => unreachable!(),
-    }
-}
-
 /// What the end of an element tells: the literal of a property.
-pub fn told_at_end(alloc: Global, place: Place) -> Result<Option<Fact>, NoMemory>
+pub fn told_at_end(place: Place) -> Option<Fact>
     requires { is_sound_place place ≡ true }
-    ensures { IfOk result (λ fact. listed fact ≡ told_at_end_of place) }
+    ensures { listed result ≡ told_at_end_of place }
 {
     match place {
         Place::InLiteral { owner, text } => {
-            let literal = literal_of(alloc, text)?;
-            Ok(Some(match owner {
+            let literal = Literal::of_text(text);
+            Some(match owner {
                 Owner::OfModel { property } => Fact::Tells {
                     property,
                     text: literal,
@@ -107,8 +85,8 @@ pub fn told_at_end(alloc: Global, place: Place) -> Result<Option<Fact>, NoMemory
                         object: Object::Literal(literal),
                     },
                 },
-            }))
+            })
         }
-        _ => Ok(None),
+        _ => None,
     }
 }

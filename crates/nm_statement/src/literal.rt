@@ -3,7 +3,7 @@ ghost use Rattle.nm_statement.specs.Literal.{is_literal};
 ghost use Rattle.nm_statement.specs.Text.{literal_of};
 ghost use Rattle.nm_statement.specs.TextError.{wants_memory};
 ghost use Rattle.nm_terms.specs.Due.{IsDue};
-ghost use Rattle.std.specs.Prelude.{◌≡◌, IfOk, IsTrue};
+ghost use Rattle.std.specs.Prelude.{◌≡◌, IfOk, IsTrue, true};
 
 use crate::error::TextError;
 use nm_ident::{NoMemory, Text};
@@ -50,6 +50,14 @@ impl Literal {
         Ok(Literal {
             text: Text::of_slice(alloc, bytes)?,
         })
+    }
+
+    /// The literal of a text that is known to be one. Nothing is copied.
+    pub fn of_text(text: Text) -> Literal
+        requires { is_literal text ≡ true }
+        ensures { result ≡ text }
+    {
+        Literal { text }
     }
 
     /// Whether [`Literal::new`] takes the bytes.

@@ -1,7 +1,6 @@
-use Rattle.std.proofs.Common.{◌∙◌, ap}
-use Rattle.nm_reader.specs.Namespaces.{declared}
+use Rattle.std.proofs.Common.{◌∙◌}
 use Rattle.nm_reader.proofs.Scopes.{declared_outside}
 use Rattle.nm_reader.proofs.namespaces.in_force.Goals as goal
 
 pub loop-rest-preserved : goal.loop-rest-preserved
-loop-rest-preserved c = declared_outside c.loop-rest.rest.now c.opened-item.result c.args.prefix.now c.in-len1-up.len_at_least c.opened-item.is (c.in-None.ensures ∙ ap (λ d. declared d c.args.prefix.now) c.as_slice.ensures) ∙ c.loop-rest.invariant
+loop-rest-preserved c = declared_outside c.loop-rest.rest.now c.opened-item.result c.args.prefix.now c.in-len1-up.len_at_least c.opened-item.is c.in-None.ensures ∙ c.loop-rest.invariant
