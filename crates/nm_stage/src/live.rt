@@ -8,7 +8,7 @@ ghost use Rattle.std.specs.Global.{Global};
 ghost use Rattle.std.specs.declared.sync.Arc.{Arc};
 ghost use Rattle.std.specs.Option.{option_map};
 ghost use Rattle.std.specs.Ordering.{nat_cmp};
-ghost use Rattle.std.specs.Prelude.{◌≡◌, ◌==◌, ◌++◌, ◌∷◌, [], length, IfOk, OnOk, nat_lt};
+ghost use Rattle.std.specs.Prelude.{◌≡◌, ◌==◌, ◌++◌, ◌∷◌, [], length, IfOk, OnOk, map, nat_lt};
 ghost use Rattle.std.specs.List.{filter, find, list_any};
 
 use crate::dependencies::first_missing;
@@ -89,6 +89,13 @@ impl Live {
         ensures live { spec.IsLive self.now }
     {
         stands_in_a_lineage(&self.projects, id)
+    }
+
+    /// The projects, in the order of their keys.
+    pub fn in_order(&self, alloc: Global) -> Result<Vec<&Project>, NoMemory>
+        ensures { IfOk result (λ projects. map (λ one. one.now) projects.items ≡ ordered.in_order self.now) }
+    {
+        in_order(alloc, &self.projects)
     }
 
     /// The steps of the projects, in the order of their keys. They share their changes with the

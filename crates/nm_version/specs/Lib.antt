@@ -1,0 +1,15 @@
+pub mod Limits
+pub mod Command
+pub mod Log
+pub mod Kept
+pub mod Replay
+pub mod Missing
+pub mod Changed
+pub mod Refusal
+pub mod After
+pub mod Within
+pub mod Laws
+pub mod Assembly
+pub mod Projects
+pub mod Listing
+pub mod Objects

@@ -1,0 +1,30 @@
+//! The store as a value of versions.
+//!
+//! A [`Version`] is a base network model with the projects that are filed to it. A [`Command`] makes
+//! the next version, or is refused. The model of a day is the base changed by the live projects that
+//! are in service by then, in the order of day and filing.
+#![tactic(auto)]
+
+mod assembly;
+mod command;
+mod edits;
+mod laws;
+mod limits;
+mod listing;
+mod log;
+mod object;
+mod refusal;
+mod replay;
+mod row;
+mod rules;
+mod version;
+
+pub use command::{Command, Entry};
+pub use laws::filed_projects_come_last;
+pub use limits::{LARGEST_STORE, MOST_COMMITS, MOST_STEPS};
+pub use refusal::{Cause, Refusal};
+pub use row::Row;
+pub use version::Version;
+
+#[cfg(test)]
+mod tests;
