@@ -13,6 +13,7 @@ ROOT = Path(__file__).resolve().parent.parent
 sys.dont_write_bytecode = True
 sys.path.insert(0, str(ROOT / "tests"))
 
+import documents  # noqa: E402
 import plain  # noqa: E402
 from models import CIM, TYPE, Difference, Full, Header, canonical  # noqa: E402
 
@@ -84,12 +85,16 @@ def by_session(live: int) -> float:
 
 
 def by_plain_rules(live: int) -> float:
-    store = plain.Store(BASE, 0)
-    store.projects = [plain.Project(i, day(i), project(i)) for i in range(1, live + 1)]
-    documents = [(i, canonical(project(i))) for i in range(live + 1, live + MEASURED + 1)]
+    store = plain.Store(BASE, canonical(BASE))
+    for i in range(1, live + 1):
+        change = project(i)
+        store.projects.append(plain.Project(i, [change.header.id], day(i), plain.dependencies_of(change), change))
+        store.log.append(file(i))
+    given = [(i, canonical(project(i))) for i in range(live + 1, live + MEASURED + 1)]
     began = time.monotonic()
-    for i, document in documents:
-        if store.file(day(i), plain.read_canonical(document), len(document)) != b"ok %d\n" % i:
+    for i, document in given:
+        line = b"file %s %d" % (day(i), len(document))
+        if store.file(day(i), documents.read(document), line, document) != b"ok %d\n" % i:
             sys.exit("the plain rules refuse a project")
     return (time.monotonic() - began) / MEASURED
 

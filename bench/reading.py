@@ -1,10 +1,12 @@
-"""Reads and assembles a large base: time, bytes per second, and peak memory per byte of the document.
+"""Reads a large export, and reads and assembles a large base: time, bytes per second, and peak memory per byte.
 
-    python3 bench/reading.py [MEGABYTES]      60 where nothing is said, 64 at most
+    python3 bench/reading.py [MEGABYTES]      60 where nothing is said, 62 at most
 
 The base is of mixed statements: UUIDs and local identifiers, links, IRIs and literals with escapes,
-of two namespaces. What follows the header of its assembly has to be the base's own bytes. Beside it
-stands `xmllint --c14n`, which reads and writes the same document in the canonical form of XML.
+of two namespaces. What follows the header of its assembly has to be the base's own bytes. The export
+states the same model with lines that are indented and end in CR LF, and `nm canon` has to write the
+base of it. Beside both stands `xmllint --c14n`, which reads and writes the same document in the
+canonical form of XML.
 """
 import os
 import shutil
@@ -48,6 +50,11 @@ def base(size: int) -> bytes:
         j += 1
 
 
+def export(document: bytes) -> bytes:
+    """The same model, spelt as tools spell it."""
+    return document.replace(b"\n<cim:", b"\n  <cim:").replace(b"\n<n1:", b"\n    <n1:").replace(b"\n", b"\r\n")
+
+
 def measured(words: list, source: Path, sink: Path):
     """The seconds, the peak memory in bytes and the status of a program on files."""
     with open(source, "rb") as given, open(sink, "wb") as taken:
@@ -62,8 +69,32 @@ def told(name: str, seconds: float, memory: int, size: int) -> None:
     print(f"{name}: {seconds:.2f} s, {size / seconds / 1e6:.1f} MB/s, {memory / size:.1f} bytes of memory per byte")
 
 
+def beside_xmllint(seconds: float, memory: int, document: Path, sink: Path) -> None:
+    if shutil.which("xmllint") is None:
+        print("xmllint is not installed: nothing to compare with")
+        return
+    size = document.stat().st_size
+    other, other_memory, status = measured(["xmllint", "--c14n", str(document)], document, sink)
+    told(f"xmllint --c14n, status {status}", other, other_memory, size)
+    print(f"nm takes {seconds / other:.1f} times the time and {memory / other_memory:.1f} times the memory of xmllint")
+
+
+def canonical_form(document: bytes, folder: Path) -> bool:
+    """Measures `nm canon` on the export of the document, and says whether it writes the document."""
+    given, sink = folder / "export.xml", folder / "canonical.xml"
+    given.write_bytes(export(document))
+    size = given.stat().st_size
+    print(f"an export of {size} bytes")
+    seconds, memory, status = measured([NM, "canon"], given, sink)
+    told("nm canon", seconds, memory, size)
+    same = status == 0 and sink.read_bytes() == document
+    print("its canonical document is the base" if same else f"FAILED: another document, status {status}")
+    beside_xmllint(seconds, memory, given, sink)
+    return same
+
+
 def main() -> int:
-    size = min(int(sys.argv[1]) if sys.argv[1:] else 60, 64) * 1_000_000
+    size = min(int(sys.argv[1]) if sys.argv[1:] else 60, 62) * 1_000_000
     document = base(size)
     with tempfile.TemporaryDirectory() as folder:
         stream, replies, alone = (Path(folder) / name for name in ("stream", "replies", "alone.xml"))
@@ -76,12 +107,8 @@ def main() -> int:
         same = (status == 0 and found.startswith(b"ok 0\ndocument ") and found.endswith(b"end 0\n")
                 and found[:-len(b"end 0\n")].partition(HEADER_END)[2] == document.partition(HEADER_END)[2])
         print("what follows the header is the base's bytes" if same else f"FAILED: another document, status {status}")
-        if shutil.which("xmllint") is None:
-            print("xmllint is not installed: nothing to compare with")
-        else:
-            other, other_memory, status = measured(["xmllint", "--c14n", str(alone)], alone, replies)
-            told(f"xmllint --c14n, status {status}", other, other_memory, len(document))
-            print(f"nm takes {seconds / other:.1f} times the time and {memory / other_memory:.1f} times the memory of xmllint")
+        beside_xmllint(seconds, memory, alone, replies)
+        same = canonical_form(document, Path(folder)) and same
     return 0 if same else 1
 
 

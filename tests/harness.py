@@ -1,5 +1,6 @@
 """Runs the built program and counts checks. NM names another program than the built one."""
 import os
+import re
 import socket
 import subprocess
 import sys
@@ -37,6 +38,14 @@ def first_difference(wanted: bytes, found: bytes):
     return f"at {at}: wanted {wanted[at:at + 80]!r}, found {found[at:at + 80]!r}"
 
 
+def documents_in(replies: bytes):
+    """The documents of the replies to `assemble`."""
+    at = 0
+    while found := re.compile(rb"^document ([0-9]+)\n", re.M).search(replies, at):
+        at = found.end() + int(found[1])
+        yield replies[found.end():at]
+
+
 def finish() -> None:
     sys.exit(1 if failures else 0)
 
@@ -48,10 +57,10 @@ def run(given: bytes, words=("session",), **more):
     return ended.stdout, ended.returncode
 
 
-def run_in_pieces(given: bytes, size: int):
+def run_in_pieces(given: bytes, size: int, form: str = "session"):
     """The same, with each read of the program getting one piece of this size: a packet is read whole."""
     ours, theirs = socket.socketpair(socket.AF_UNIX, socket.SOCK_SEQPACKET)
-    process = subprocess.Popen([NM, "session"], stdin=theirs, stdout=subprocess.PIPE)
+    process = subprocess.Popen([NM, form], stdin=theirs, stdout=subprocess.PIPE)
     theirs.close()
 
     def feed() -> None:

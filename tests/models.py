@@ -68,26 +68,6 @@ def object_of_resource(text: bytes):
     return None if text == b"" or text.startswith(b"#") else (2, text)
 
 
-NO_CHARACTER = re.compile("[^\t\n\r\u0020-\ud7ff\ue000-\ufffd\U00010000-\U0010ffff]")
-
-
-def is_text(text: bytes) -> bool:
-    """UTF-8 of characters of XML 1.0 alone."""
-    try:
-        return NO_CHARACTER.search(text.decode("utf-8")) is None
-    except UnicodeDecodeError:
-        return False
-
-
-def is_sound(statement) -> bool:
-    subject, predicate, obj = statement
-    if subject is None or obj is None or not is_predicate(*predicate):
-        return False
-    if obj[0] == 0:
-        return is_text(obj[1]) and len(obj[1]) <= MOST_LITERAL
-    return obj[0] == 1 or (is_text(obj[1]) and len(obj[1]) <= MOST_IRI)
-
-
 @dataclass
 class Header:
     id: int
@@ -100,19 +80,11 @@ class Header:
     depends: list = field(default_factory=list)
     supersedes: list = field(default_factory=list)
 
-    def is_sound(self) -> bool:
-        return (all(is_text(text) and len(text) <= MOST_LITERAL for text in self.profiles)
-                and len(self.profiles) <= MOST_PROFILES and len(self.depends) <= MOST_DEPENDS
-                and len(self.supersedes) <= MOST_SUPERSEDES)
-
 
 @dataclass
 class Full:
     header: Header
     statements: set
-
-    def is_kept(self) -> bool:
-        return self.header.is_sound() and all(map(is_sound, self.statements)) and len(self.statements) <= MOST_STATEMENTS
 
 
 @dataclass
@@ -121,11 +93,6 @@ class Difference:
     pre: set = field(default_factory=set)
     rev: set = field(default_factory=set)
     fwd: set = field(default_factory=set)
-
-    def is_kept(self) -> bool:
-        parts = (self.pre, self.rev, self.fwd)
-        return (self.header.is_sound() and all(all(map(is_sound, part)) for part in parts)
-                and sum(map(len, parts)) <= MOST_CHANGES)
 
 
 # ---------------------------------------------------------------- the canonical document

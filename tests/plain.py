@@ -1,38 +1,27 @@
 """The rules of the store and of sessions, written plainly: what the built program is compared with.
 
-    python3 tests/plain.py < STREAM      writes the replies to a session stream, and exits with its status
+    python3 tests/plain.py < STREAM              writes the replies to a session stream, and exits with its status
+    python3 tests/plain.py canon < DOCUMENT      does what that form does; so with check
 
 Models are those of `models.py`, and documents are read by `documents.py`. Each command is answered by
 a replay of everything filed so far.
 """
+import datetime
 import re
 import sys
 import uuid
-from dataclasses import dataclass
+from dataclasses import dataclass, replace
 
 import documents
-from models import MOST_DOCUMENT, Difference, Full, Header, canonical, id_of, uuid_text
+from models import MOST_DOCUMENT, Difference, Full, Header, canonical, id_of, uuid_of, uuid_text
 
 MOST_PROJECTS = 4_096
+MOST_COMMITS = 65_536
 MOST_BYTES = 268_435_456
 MOST_SESSION = 4_294_967_296
 LINE_ROOM = 257
 
-DONE, USAGE, READ_FAULT, WRITE_FAULT, NO_MEMORY, BAD_SESSION, CUT, TOO_MUCH = 0, 2, 3, 4, 5, 6, 7, 8
-
-# ---------------------------------------------------------------- canonical documents
-
-
-def read_canonical(data: bytes):
-    """The model whose canonical document the bytes are, where its header has no more than a session reads; or None."""
-    try:
-        model = documents.read(data)
-    except documents.Fault:
-        return None
-    header = model.header
-    others = (header.created, header.scenario_time, header.version, header.description, header.authority)
-    return model if canonical(model) == data and not any(text is not None for text in others) else None
-
+DONE, REFUSED, USAGE, READ_FAULT, WRITE_FAULT, NO_MEMORY, BAD_SESSION, CUT, TOO_MUCH = range(9)
 
 # ---------------------------------------------------------------- the store
 
@@ -51,56 +40,120 @@ def report_line(statement) -> bytes:
 
 @dataclass
 class Project:
+    """A live project: its filing number, the model ids it has had, and its day, dependencies and change."""
     filing: int
+    lineage: list
     day: bytes
-    difference: Difference
+    dependencies: set
+    change: Difference
+
+    def filed(self, day: bytes):
+        return replace(self, day=day)
+
+    def revised(self, model: Difference):
+        """The project with another model: what it depends on is that without the id that was current."""
+        dependencies = dependencies_of(model) - {self.lineage[-1]}
+        return replace(self, lineage=[*self.lineage, model.header.id], dependencies=dependencies, change=model)
+
+
+def dependencies_of(model) -> set:
+    return {*model.header.depends, *model.header.supersedes}
+
+
+def by_step(project: Project):
+    return project.day, project.filing
 
 
 class Store:
-    def __init__(self, base: Full, size: int):
-        self.base, self.size, self.projects = base, size, []
+    def __init__(self, base: Full, document: bytes):
+        self.base, self.projects = base, []
+        self.size, self.log = len(document), [b"base %d\n" % len(document) + document]
 
-    def steps(self, more=()):
-        return sorted([*self.projects, *more], key=lambda project: (project.day, project.filing))
+    @property
+    def number(self) -> int:
+        """The accepted commands."""
+        return len(self.log) - 1
 
     def replay(self, steps):
         """The statements after the steps, or the first cause of the first step that does not fit."""
-        statements = set(self.base.statements)
+        statements, met = set(self.base.statements), {self.base.header.id, *self.base.header.depends}
         for step in steps:
-            change = step.difference
-            causes = ([(b"precondition", s) for s in sorted(change.pre - statements)]
-                      + [(b"reverse", s) for s in sorted(change.rev - statements)]
-                      + [(b"forward", s) for s in sorted(change.fwd & statements)])
+            change = step.change
+            causes = ([(b"dependency", uuid_text(id)) for id in sorted(step.dependencies - met)]
+                      + [(b"precondition", report_line(s)) for s in sorted(change.pre - statements)]
+                      + [(b"reverse", report_line(s)) for s in sorted(change.rev - statements)]
+                      + [(b"forward", report_line(s)) for s in sorted(change.fwd & statements)])
             if causes:
-                part, statement = causes[0]
-                return None, b" ".join((step.day, uuid_text(change.header.id), part, report_line(statement)))
-            statements = (statements - change.rev) | change.fwd
+                return None, b" ".join((step.day, uuid_text(step.lineage[-1]), *causes[0]))
+            statements, met = (statements - change.rev) | change.fwd, met | set(step.lineage)
         return statements, None
 
-    def file(self, day: bytes, model, size: int) -> bytes:
+    def project(self, id: int):
+        return next((project for project in self.projects if project.lineage[0] == id), None)
+
+    def is_in_use(self, id: int) -> bool:
+        return id == self.base.header.id or any(id in project.lineage for project in self.projects)
+
+    def file(self, day: bytes, model, line: bytes, document: bytes) -> bytes:
         if not isinstance(model, Difference):
             return b"refused kind\n"
         number = model.header.id
-        if number == self.base.header.id or any(number == project.difference.header.id for project in self.projects):
-            return b"refused inuse " + uuid_text(number) + b"\n"
-        if len(self.projects) == MOST_PROJECTS:
-            return b"refused limit L4\n"
-        if self.size + size > MOST_BYTES:
-            return b"refused limit L6\n"
-        project = Project(len(self.projects) + 1, day, model)
-        _, cause = self.replay(self.steps([project]))
-        if cause is not None:
-            return b"refused step " + cause + b"\n"
-        self.projects.append(project)
-        self.size += size
-        return b"ok %d\n" % len(self.projects)
+        if self.is_in_use(number):
+            return b"refused inuse %s\n" % uuid_text(number)
+        project = Project(self.number + 1, [number], day, dependencies_of(model), model)
+        return self.commit([*self.projects, project], line, document)
 
-    def in_service(self, day: bytes):
+    def revise(self, id: int, model, line: bytes, document: bytes) -> bytes:
+        if not isinstance(model, Difference):
+            return b"refused kind\n"
+        project = self.project(id)
+        if project is None:
+            return b"refused unknown %s\n" % uuid_text(id)
+        if project.lineage[-1] not in model.header.supersedes:
+            return b"refused superseding %s\n" % uuid_text(project.lineage[-1])
+        if self.is_in_use(model.header.id):
+            return b"refused inuse %s\n" % uuid_text(model.header.id)
+        return self.commit(self.with_project(project, project.revised(model)), line, document)
+
+    def redate(self, id: int, day: bytes, line: bytes) -> bytes:
+        project = self.project(id)
+        if project is None:
+            return b"refused unknown %s\n" % uuid_text(id)
+        return self.commit(self.with_project(project, project.filed(day)), line)
+
+    def withdraw(self, id: int, line: bytes) -> bytes:
+        project = self.project(id)
+        if project is None:
+            return b"refused unknown %s\n" % uuid_text(id)
+        return self.commit([other for other in self.projects if other is not project], line)
+
+    def with_project(self, project: Project, changed: Project) -> list:
+        return [changed if other is project else other for other in self.projects]
+
+    def commit(self, projects: list, line: bytes, document: bytes = b"") -> bytes:
+        """Takes the changed list of projects, unless it passes a limit or does not fit."""
+        if len(projects) > MOST_PROJECTS:
+            return b"refused limit L4\n"
+        if self.number == MOST_COMMITS:
+            return b"refused limit L5\n"
+        if self.size + len(document) > MOST_BYTES:
+            return b"refused limit L6\n"
+        _, cause = self.replay(sorted(projects, key=by_step))
+        if cause is not None:
+            return b"refused step %s\n" % cause
+        self.projects, self.size = projects, self.size + len(document)
+        self.log.append(line + b"\n" + document)
+        return b"ok %d\n" % self.number
+
+    def steps(self) -> list:
+        return sorted(self.projects, key=by_step)
+
+    def in_service(self, day: bytes) -> list:
         return [step for step in self.steps() if step.day <= day]
 
     def assembly(self, day: bytes) -> Full:
         steps = self.in_service(day)
-        ids = [step.difference.header.id for step in steps]
+        ids = [step.lineage[-1] for step in steps]
         name = b"".join(text + b"\n" for text in [day, *map(uuid_text, ids)])
         base = self.base.header
         header = Header(uuid.uuid5(uuid.UUID(int=base.id), name.decode()).int, created=base.created,
@@ -110,48 +163,98 @@ class Store:
 
     def summary(self, day: bytes) -> bytes:
         count = len(self.replay(self.in_service(day))[0])
-        return b"summary commits %d projects %d statements %d\n" % (len(self.projects), len(self.projects), count)
+        return b"summary commits %d projects %d statements %d\n" % (self.number, len(self.projects), count)
+
+    def list_projects(self) -> bytes:
+        rows = [b"%s %s %s\n" % (uuid_text(step.lineage[0]), step.day, uuid_text(step.lineage[-1])) for step in self.steps()]
+        return b"projects %d\n" % len(rows) + b"".join(rows)
+
+    def list_log(self) -> bytes:
+        stream = b"".join(self.log) + b"end\n"
+        return b"log %d\n" % len(stream) + stream
 
 
 # ---------------------------------------------------------------- the session
 
-NUMERAL = rb"(0|[1-9][0-9]*)"
-DAY = rb"((?:19|2[0-9])[0-9]{2}-(?:0[1-9]|1[0-2])-(?:0[1-9]|[12][0-9]|3[01]))"
-BASE, FILE = re.compile(rb"base " + NUMERAL), re.compile(rb"file " + DAY + b" " + NUMERAL)
-ASSEMBLE, SUMMARY = re.compile(rb"assemble " + DAY), re.compile(rb"summary " + DAY)
+NUMERAL, DAY, ID = rb"(?P<length>0|[1-9][0-9]*)", rb"(?P<day>[0-9]{4}-[0-9]{2}-[0-9]{2})", rb"(?P<id>[0-9A-Fa-f-]{36})"
+BASE = re.compile(rb"base " + NUMERAL)
+COMMANDS = [re.compile(line) for line in (
+    rb"file " + DAY + b" " + NUMERAL, rb"revise " + ID + b" " + NUMERAL, rb"redate " + ID + b" " + DAY, rb"withdraw " + ID,
+    rb"assemble " + DAY, rb"projects", rb"log", rb"summary " + DAY)]
+
+
+def is_day(text: bytes) -> bool:
+    """Whether the calendar has the day, whose year is 1900 to 2999."""
+    try:
+        return 1900 <= datetime.date.fromisoformat(text.decode()).year <= 2999
+    except ValueError:
+        return False
+
+
+@dataclass
+class Command:
+    """A line that is a command: its word, and what it names."""
+    word: bytes
+    day: bytes = b""
+    id: int | None = None
+    length: int = 0
 
 
 def command_of(line: bytes, has_base: bool):
-    """The command's word, day and length, where the line is a command here."""
+    """The command, where the line is one here."""
     if line == b"end":
-        return b"end", b"", 0
-    if not has_base:
-        found = BASE.fullmatch(line)
-        command = (b"base", b"", int(found[1])) if found else None
-    elif found := FILE.fullmatch(line):
-        command = b"file", found[1], int(found[2])
-    elif found := ASSEMBLE.fullmatch(line) or SUMMARY.fullmatch(line):
-        command = line.split(b" ")[0], found[1], 0
-    else:
-        command = None
-    return command if command and command[2] <= MOST_DOCUMENT else None
+        return Command(b"end")
+    for form in COMMANDS if has_base else [BASE]:
+        if found := form.fullmatch(line):
+            parts = found.groupdict()
+            command = Command(line.split(b" ")[0], parts.get("day") or b"", uuid_of(parts.get("id") or b""),
+                              int(parts.get("length") or 0))
+            good = (command.length <= MOST_DOCUMENT and (not command.day or is_day(command.day))
+                    and ("id" not in parts or command.id is not None))
+            return command if good else None
+    return None
 
 
-def reply_to(store, word: bytes, day: bytes, body: bytes):
+def answer(store: Store, command: Command) -> bytes:
+    """The reply to a question."""
+    if command.word == b"assemble":
+        document = canonical(store.assembly(command.day))
+        return b"document %d\n" % len(document) + document
+    if command.word == b"summary":
+        return store.summary(command.day)
+    return store.list_projects() if command.word == b"projects" else store.list_log()
+
+
+def change(store: Store, command: Command, line: bytes) -> bytes:
+    """The reply to a command without a document that changes the store."""
+    if command.word == b"redate":
+        return store.redate(command.id, command.day, line)
+    return store.withdraw(command.id, line)
+
+
+def reply_to(store, command: Command, line: bytes, body: bytes):
     """The reply, and the store after it."""
-    if word == b"end":
-        return b"end %d\n" % (len(store.projects) if store else 0), store
-    if word == b"assemble":
-        document = canonical(store.assembly(day))
-        return b"document %d\n" % len(document) + document, store
-    if word == b"summary":
-        return store.summary(day), store
-    model = read_canonical(body)
-    if model is None:
-        return b"refused notcanonical\n", store
-    if word == b"file":
-        return store.file(day, model, len(body)), store
-    return (b"ok 0\n", Store(model, len(body))) if isinstance(model, Full) else (b"refused kind\n", None)
+    if command.word == b"end":
+        return b"end %d\n" % (store.number if store else 0), store
+    if command.word in (b"redate", b"withdraw"):
+        return change(store, command, with_lower_case(line, command)), store
+    if command.word not in (b"base", b"file", b"revise"):
+        return answer(store, command), store
+    try:
+        model = documents.read(body)
+    except documents.Fault as fault:
+        return b"refused document %d %s\n" % (fault.at, fault.code.encode()), store
+    if command.word == b"file":
+        return store.file(command.day, model, line, body), store
+    if command.word == b"revise":
+        return store.revise(command.id, model, with_lower_case(line, command), body), store
+    return (b"ok 0\n", Store(model, body)) if isinstance(model, Full) else (b"refused kind\n", None)
+
+
+def with_lower_case(line: bytes, command: Command) -> bytes:
+    """The line as the log keeps it: with its identifier in lower case."""
+    word, _, *others = line.split(b" ")
+    return b" ".join([word, uuid_text(command.id), *others])
 
 
 def session(stream: bytes):
@@ -163,20 +266,33 @@ def session(stream: bytes):
         end = stream.find(b"\n", at, at + LINE_ROOM)
         if end < 0 and len(stream) - at < LINE_ROOM:
             return b"".join(replies), short
-        command = None if end < 0 else command_of(stream[at:end], store is not None)
+        line = stream[at:end]
+        command = None if end < 0 else command_of(line, store is not None)
         if command is None:
             return b"".join(replies) + b"badline %d\n" % at, BAD_SESSION
-        word, day, length = command
-        if len(stream) - (end + 1) < length:
+        if len(stream) - (end + 1) < command.length:
             return b"".join(replies), short
-        at = end + 1 + length
-        reply, store = reply_to(store, word, day, stream[end + 1:at])
+        at = end + 1 + command.length
+        reply, store = reply_to(store, command, line, stream[end + 1:at])
         replies.append(reply)
-        if word == b"end":
+        if command.word == b"end":
             return b"".join(replies), DONE
 
 
+# ---------------------------------------------------------------- the other forms
+
+
+def canon(document: bytes):
+    """The canonical document of the model that is stated, or the fault; and the status."""
+    try:
+        return canonical(documents.read(document)), DONE
+    except documents.Fault as fault:
+        return b"%s\n" % str(fault).encode(), REFUSED
+
+
+FORMS = {"session": session, "canon": canon, "check": documents.told}
+
 if __name__ == "__main__":
-    written, status = session(sys.stdin.buffer.read())
+    written, status = FORMS[sys.argv[1] if sys.argv[1:] else "session"](sys.stdin.buffer.read())
     sys.stdout.buffer.write(written)
     sys.exit(status)

@@ -74,7 +74,7 @@ def whole(j: int) -> set:
     return {class_of(j), name_of(j), container_of(j), owner_of(j)}
 
 
-BASE = Full(Header(BASE_ID, profiles=[b"http://example.org/Equipment/1"], depends=[number(9, 1)]),
+BASE = Full(Header(BASE_ID, profiles=[b"http://example.org/Equipment/1"], depends=[number(9, 1), number(9, 2)]),
             {statement for j in range(OBJECTS) for statement in whole(j)})
 
 # ---------------------------------------------------------------- the projects
@@ -104,6 +104,8 @@ def not_fitting(i: int, day: bytes, change: Difference):
     if way == 0:  # a precondition that does not hold, beside two later causes
         other.pre = {name_of(j, b"no such name"), class_of(j)}
         other.fwd = {class_of(j + 1)}
+    elif way == 1:  # a model that is not there, beside a later cause
+        other.header.depends = [number(9, 3), number(2, i + 1)]
     elif way == 2:  # a forward statement that is there, and a reverse one that is too
         other.rev, other.fwd = {name_of(j + 1)}, {name_of(j + 1), owner_of(j + 2)}
     elif way == 3:  # the base's identifier
@@ -116,8 +118,8 @@ def not_fitting(i: int, day: bytes, change: Difference):
         return before(day), canonical(Difference(header(3, i), set(), change.rev, set()))
     elif way == 7:  # the same on the same day, where the order of filing decides
         return day, canonical(Difference(header(3, i), set(), change.rev, set()))
-    elif way == 8:  # no canonical document
-        return day, canonical(other).replace(b"<dm:preconditions ", b"<dm:preconditions  ")
+    elif way == 8:  # a section of another name
+        return day, canonical(other).replace(b"<dm:preconditions ", b"<dm:precondition ")
     elif way == 9:  # what project `i` adds, a day too early
         return before(day), canonical(Difference(header(3, i), change.fwd, set(), set()))
     return day, canonical(other)
@@ -129,8 +131,9 @@ def before(day: bytes) -> bytes:
 
 
 def follower(i: int, change: Difference) -> Difference:
-    """What stands on project `i`: it needs what that adds, and takes it away."""
-    return Difference(header(5, i), change.fwd, change.fwd, set())
+    """What stands on project `i`: it depends on it, needs what that adds, and takes it away."""
+    needed = Header(number(5, i), supersedes=[BASE_ID], depends=[number(2, i)])
+    return Difference(needed, change.fwd, change.fwd, set())
 
 
 def file(day: bytes, document: bytes) -> bytes:
@@ -180,7 +183,7 @@ def main() -> None:
     # What the stream is for, by the plain rules: a stream that meets no refusal would show nothing.
     for name, pattern, least in (
             ("accepted projects", rb"ok [1-9][0-9]*", 60), ("the kind", rb"refused kind", 6),
-            ("identifiers in use", rb"refused inuse .*", 12), ("no canonical document", rb"refused notcanonical", 6),
+            ("identifiers in use", rb"refused inuse .*", 12), ("a fault", rb"refused document [0-9]+ stray", 6), ("a dependency", rb"refused step .* dependency .*", 6),
             ("a precondition", rb"refused step .* precondition .*", 6), ("a reverse", rb"refused step .* reverse .*", 6),
             ("a forward", rb"refused step .* forward .*", 6),
             ("a step of a project filed before", rb"refused step .* 00000002-.* reverse .*", 3),

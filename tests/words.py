@@ -4,11 +4,12 @@ import subprocess
 
 from harness import NM, check, finish
 
-USAGE = b"usage: nm session\n"
+USAGE = b"usage: nm session | canon | check\n"
 GIVEN = b"end\n"
 
 for words in ([], [""], ["Session"], ["session", ""], ["session", "extra"], ["session", "--help"], ["--help"], ["-h"],
-              ["--version"], ["end"], ["session "], ["sessions"], ["sessio"], ["canon"], ["check"], ["gen", "20", "7"],
+              ["--version"], ["end"], ["session "], ["sessions"], ["sessio"], ["canon", "examples/base.xml"], ["check", ""], ["Check"],
+              ["canonical"], ["chec"], ["canon", "check"], ["gen", "20", "7"],
               ["serve", "8080", "1", "1"], [b"session\xff"], ["session", b"\xff"]):
     reading, writing = os.pipe()
     os.write(writing, GIVEN)

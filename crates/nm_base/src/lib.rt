@@ -27,3 +27,4 @@ mod steady;
 mod steps;
 #[cfg(test)]
 mod tests;
+mod vector;

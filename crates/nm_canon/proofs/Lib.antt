@@ -19,3 +19,4 @@ pub mod Fine
 pub mod Counts
 pub mod Wholes
 pub mod Again
+pub mod ReadBack

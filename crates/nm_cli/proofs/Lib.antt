@@ -1,12 +1,11 @@
 pub mod Numerals
-pub mod Causes
-pub mod Insertion
-pub mod Steps
-pub mod Refusals
 pub mod Turns
 pub mod ExamplesOfReplies
+pub mod ExamplesOfReports
 pub mod LineFeeds
 pub mod Gives
 pub mod Commands
+pub mod Answered
 pub mod Sessions
 pub mod StreamExamples
+pub mod Reports

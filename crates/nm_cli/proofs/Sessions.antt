@@ -1,6 +1,6 @@
 -- Lemmas on a session in between its commands, and at its end.
 use Rattle.std.proofs.Common.{◌≡◌, ℕ, zero, suc, ◌+◌, ◌-◌, ◌<◌, ◌≤◌, List, [], ◌++◌, Option, None, Some, IfSome, Bool, true, false, cond, length, take, drop, codes, refl, sym, ap, ◌∙◌, subst, arith, append_assoc, inl, inr}
-use Rattle.std.proofs.lemmas.List.{length-take, take_all, take_at, drop_at, take-append-le}
+use Rattle.std.proofs.lemmas.List.{length-take, take_at, drop_at, take-append-le}
 use Rattle.std.proofs.Math.Seq.{take-add}
 use Rattle.std.proofs.lemmas.Bool.{lt-ltb, le-ltb}
 use Rattle.std.proofs.KnownBytes.{Appends-trans, Appends-nil}
@@ -8,7 +8,7 @@ use Rattle.std.specs.Io.KnownBytes.{Appends}
 use Rattle.nm_base.specs.Written.{AppendsFront}
 use Rattle.nm_base.specs.declared.outcome.Status.{Status}
 use Rattle.nm_base.specs.declared.outcome.Status.TheVariants.{Done, Refused, Usage, ReadFault, WriteFault, NoMemory, BadSession, Cut, TooMuch, DoorFault}
-use Rattle.nm_cli.specs.Answered.{AppendsPrefix, is_ending, AnswersStream, AnswersUnlessFaults, HasCause}
+use Rattle.nm_cli.specs.Answered.{Answers, AppendsPrefix, is_ending, AnswersStream, AnswersUnlessFaults, HasCause}
 use Rattle.nm_cli.specs.Turns.{is_end, TakesCommand, TakesTurn, TurnStops, NamesBadLine, EndsWith}
 use Rattle.nm_cli.specs.Buffered.{Buffered}
 use Rattle.nm_cli.specs.Input.{coming, in_session}
@@ -17,12 +17,13 @@ use Rattle.nm_cli.specs.Reply.{numbered}
 use Rattle.nm_cli.specs.Stops.{status_of}
 use Rattle.nm_cli.specs.Stream.{Next, next_in, Outcome, behind_reply, behind_command, offset_behind, bad_line, short, outcome_of, outcome_within, short_ending, outcome}
 use Rattle.nm_cli.specs.Turn.{Turn, turn_of}
+use Rattle.nm_cli.proofs.Answered.{answers_part, answers_whole}
 use Rattle.nm_cli.specs.declared.turn.State.{State}
 use Rattle.nm_cli.specs.declared.turn.State.TheVariants.{Empty}
 use Rattle.nm_cli.specs.declared.stop.Stop.{Stop}
 use Rattle.nm_cli.specs.declared.stop.Stop.TheVariants as stops
 use Rattle.nm_cli.specs.declared.word.Word.{Word}
-use Rattle.nm_cli.specs.declared.word.Word.TheVariants.{Base, File, Assemble, Summary, End}
+use Rattle.nm_cli.specs.declared.word.Word.TheVariants.{Base, File, Revise, Redate, Withdraw, Assemble, Projects, Log, Summary, End}
 
 -- in between two commands: the replies so far, and then what comes of the rest, are the whole outcome
 pub record Standing (stream : List ℕ) (buffered : Buffered) (left : Option (List ℕ)) (state : State) (written now : Option (List ℕ)) : Type 0 where
@@ -62,14 +63,24 @@ behind_both first second others = ap (λ (l : List ℕ). let o : Outcome = recor
 goes_on : (word : Word) (turn : Turn) (others : Outcome) → is_end word ≡ false → behind_command word turn others ≡ behind_reply turn.reply others
 goes_on (Base len) turn others e = refl
 goes_on (File day len) turn others e = refl
+goes_on (Revise project len) turn others e = refl
+goes_on (Redate project day) turn others e = refl
+goes_on (Withdraw project) turn others e = refl
 goes_on (Assemble day) turn others e = refl
+goes_on Projects turn others e = refl
+goes_on Log turn others e = refl
 goes_on (Summary day) turn others e = refl
 goes_on End turn others e = cc
 
 is_over : (word : Word) (turn : Turn) (others : Outcome) → is_end word ≡ true → behind_command word turn others ≡ record { replies = turn.reply; ending = Done }
 is_over (Base len) turn others e = cc
 is_over (File day len) turn others e = cc
+is_over (Revise project len) turn others e = cc
+is_over (Redate project day) turn others e = cc
+is_over (Withdraw project) turn others e = cc
 is_over (Assemble day) turn others e = cc
+is_over Projects turn others e = cc
+is_over Log turn others e = cc
 is_over (Summary day) turn others e = cc
 is_over End turn others e = refl
 
@@ -134,12 +145,7 @@ stands_next stream old new left rest before after written mid now is_last goes s
 whole_answer : (stream : List ℕ) (status : Status) (written now : Option (List ℕ)) (given : Outcome) → outcome stream ≡ given → status ≡ given.ending → Appends written now given.replies
     → AnswersStream stream status written now
 whole_answer stream status written now given e ends appended =
-    let replies : (outcome stream).replies ≡ given.replies = ap (λ (o : Outcome). o.replies) e in
-    let all : Appends written now (outcome stream).replies = subst (Appends written now) (sym replies) appended in
-    record {
-      prefix = (length (outcome stream).replies, subst (Appends written now) (sym (take_all (length (outcome stream).replies) (outcome stream).replies (omega arith))) all);
-      whole = λ _. record { ending = ends ∙ ap (λ (o : Outcome). o.ending) (sym e); replies = all };
-    }
+    subst (λ (due : Outcome). Answers due status written now) (sym e) (answers_whole given status written now (record { ending = ends; replies = appended }))
 
 take_behind : (xs ys : List ℕ) (n : ℕ) → take (length xs + n) (xs ++ ys) ≡ xs ++ take n ys
 take_behind xs ys n =
@@ -152,10 +158,8 @@ part_answer stream status written mid now replies others e appended more no_endi
     let all : (outcome stream).replies ≡ replies ++ others.replies = ap (λ (o : Outcome). o.replies) e in
     let front : take (length replies + more.0) (outcome stream).replies ≡ replies ++ take more.0 others.replies =
     ap (take (length replies + more.0)) all ∙ take_behind replies others.replies more.0 in
-    record {
-      prefix = (length replies + more.0, subst (Appends written now) (sym front) (Appends-trans written mid now replies (take more.0 others.replies) appended more.1));
-      whole = λ ends. absurd (let wrong : true ≡ false = sym ends ∙ no_ending in cc);
-    }
+    answers_part (outcome stream) status written now no_ending
+    (length replies + more.0, subst (Appends written now) (sym front) (Appends-trans written mid now replies (take more.0 others.replies) appended more.1))
 
 nothing_more : (mid now : Option (List ℕ)) (bytes : List ℕ) → now ≡ mid → AppendsPrefix mid now bytes
 nothing_more mid now bytes e = (0, subst (λ o. Appends mid o []) (sym e) (Appends-nil mid))
@@ -164,7 +168,12 @@ nothing_more mid now bytes e = (0, subst (λ o. Appends mid o []) (sym e) (Appen
 front_of_reply : (word : Word) (turn : Turn) (others : Outcome) (n : ℕ) → n ≤ length turn.reply → take n (behind_command word turn others).replies ≡ take n turn.reply
 front_of_reply (Base len) turn others n h = take-append-le n turn.reply others.replies h
 front_of_reply (File day len) turn others n h = take-append-le n turn.reply others.replies h
+front_of_reply (Revise project len) turn others n h = take-append-le n turn.reply others.replies h
+front_of_reply (Redate project day) turn others n h = take-append-le n turn.reply others.replies h
+front_of_reply (Withdraw project) turn others n h = take-append-le n turn.reply others.replies h
 front_of_reply (Assemble day) turn others n h = take-append-le n turn.reply others.replies h
+front_of_reply Projects turn others n h = take-append-le n turn.reply others.replies h
+front_of_reply Log turn others n h = take-append-le n turn.reply others.replies h
 front_of_reply (Summary day) turn others n h = take-append-le n turn.reply others.replies h
 front_of_reply End turn others n h = refl
 

@@ -1,15 +1,16 @@
 -- Short streams, with their replies and endings.
-use Rattle.std.proofs.Common.{◌≡◌, ℕ, List, [], ◌∷◌, ◌++◌, codes, Some, true, false, refl, lit<, lit≤}
+use Rattle.std.proofs.Common.{◌≡◌, ℕ, List, [], ◌∷◌, ◌++◌, codes, None, Some, refl, lit<, lit≤}
 use Rattle.std.specs.Prelude.{replicate}
 use Rattle.nm_base.specs.declared.outcome.Status.TheVariants.{Done, ReadFault, Cut}
+use Rattle.nm_day.specs.Day.{is_day}
+use Rattle.nm_version.specs.Kept.{Kept}
 use Rattle.nm_cli.specs.Answered.{AppendsPrefix, HasCause}
-use Rattle.nm_cli.specs.CommandLine.{is_session}
-use Rattle.nm_cli.specs.Day.{day_of}
+use Rattle.nm_cli.specs.CommandLine.{form_of}
 use Rattle.nm_cli.specs.Input.{GivesLine}
-use Rattle.nm_cli.specs.Kept.{Kept}
 use Rattle.nm_cli.specs.Reply.{numbered}
 use Rattle.nm_cli.specs.Stream.{Command, next_in, outcome, outcome_within, bad_line, short}
-use Rattle.nm_cli.specs.Word.{length_of, dated_line}
+use Rattle.nm_cli.specs.Word.{length_of, dated_line, project_line, word_of}
+use Rattle.nm_cli.specs.declared.form.Form.TheVariants.{Session, Check}
 use Rattle.nm_cli.specs.declared.turn.State.TheVariants.{Empty, Store}
 use Rattle.nm_cli.specs.declared.word.Word.TheVariants.{Base, Assemble, End}
 
@@ -31,35 +32,36 @@ behind_base : List ℕ
 behind_base = codes "assemble 2027-01-01" ++ 10 ∷ codes "end" ++ 10 ∷ []
 
 base_comes : next_in Empty (codes "base 462" ++ 10 ∷ base_document ++ behind_base) ≡ Command (Base 462) base_document behind_base
-unfolding length_of base_document behind_base
+unfolding word_of length_of base_document behind_base
 base_comes = refl
 
 day_comes : (kept : Kept) → next_in (Store kept) behind_base ≡ Command (Assemble (codes "2027-01-01")) [] (codes "end" ++ 10 ∷ [])
-unfolding dated_line day_of behind_base
+unfolding word_of dated_line is_day behind_base
 day_comes kept = refl
 
 end_comes : (kept : Kept) → next_in (Store kept) (codes "end" ++ 10 ∷ []) ≡ Command End [] []
+unfolding word_of
 end_comes kept = refl
 
 -- ---- short streams
 
 -- a session of nothing but its end; what follows the end is not looked at
 only_end : outcome (codes "end" ++ 10 ∷ codes "?") ≡ record { replies = numbered (codes "end") 0; ending = Done }
-unfolding outcome_within
+unfolding outcome_within word_of
 only_end = refl
 
 -- a line that is no command there is named by the offset at which it begins
 bad_first_line : outcome (codes "summary 2024-01-01" ++ 10 ∷ []) ≡ bad_line 0
-unfolding outcome_within dated_line day_of
+unfolding outcome_within word_of dated_line is_day
 bad_first_line = refl
 
 bad_later_line : outcome_within 2 Cut Empty 71 (10 ∷ []) ≡ bad_line 71
-unfolding outcome_within dated_line
+unfolding outcome_within word_of dated_line project_line
 bad_later_line = refl
 
 -- a document that ends before its length does
 cut_document : outcome (codes "base 3" ++ 10 ∷ codes "ab") ≡ short Cut
-unfolding outcome_within length_of
+unfolding outcome_within word_of length_of
 cut_document = refl
 
 -- a rest of 256 bytes may still become a line, and one of 257 is too long for it
@@ -71,11 +73,14 @@ too_long_for_line : outcome (replicate 257 120) ≡ bad_line 0
 unfolding outcome_within
 too_long_for_line = refl
 
--- the form is one word
-one_word : is_session (codes "session" ∷ []) ≡ true
+-- a form is one word
+one_word : form_of (codes "session" ∷ []) ≡ Some Session
 one_word = refl
 
-two_words : is_session (codes "session" ∷ [] ∷ []) ≡ false
+another_word : form_of (codes "check" ∷ []) ≡ Some Check
+another_word = refl
+
+two_words : form_of (codes "session" ∷ [] ∷ []) ≡ None
 two_words = refl
 
 -- one of two bytes was written

@@ -1,15 +1,10 @@
 pub mod Limits
 pub mod Digits
-pub mod Day
 pub mod Word
-pub mod Kept
-pub mod Filed
-pub mod Replay
-pub mod Assembly
-pub mod Refusal
 pub mod Reply
+pub mod Body
 pub mod Turn
-pub mod ExamplesOfStore
+pub mod Examples
 pub mod Stream
 pub mod Stops
 pub mod Buffered
@@ -17,3 +12,6 @@ pub mod Input
 pub mod Turns
 pub mod Answered
 pub mod CommandLine
+pub mod Report
+pub mod Reported
+pub mod Forms

@@ -1,15 +1,19 @@
 -- The texts of replies.
 use Rattle.std.specs.Prelude.{ℕ, List, [], ◌∷◌, ◌++◌, length, codes}
 use Rattle.std.specs.Fmt.{decimal}
+use Rattle.std.specs.List.{flat_map}
 use Rattle.nm_base.specs.declared.outcome.Limit.{Limit}
 use Rattle.nm_base.specs.declared.outcome.Limit.TheVariants.{L1, L2, L3, L4, L5, L6, L7, L8, L9, L10, L11, L12}
 use Rattle.nm_ident.specs.UuidText.{uuid_text}
+use Rattle.nm_reader.specs.Code.{code_text}
+use Rattle.nm_reader.specs.declared.fault.Fault.{Fault}
 use Rattle.nm_statement.specs.Line.{line_of}
-use Rattle.nm_cli.specs.declared.refusal.Part.{Part}
-use Rattle.nm_cli.specs.declared.refusal.Part.TheVariants.{Precondition, Reverse, Forward}
-use Rattle.nm_cli.specs.declared.refusal.Break.{Break}
-use Rattle.nm_cli.specs.declared.refusal.Refusal.{Refusal}
-use Rattle.nm_cli.specs.declared.refusal.Refusal.TheVariants as refusal
+use Rattle.nm_statement.specs.declared.statement.Statement.{Statement}
+use Rattle.nm_version.specs.declared.refusal.Cause.{Cause}
+use Rattle.nm_version.specs.declared.refusal.Cause.TheVariants.{Dependency, Precondition, Reverse, Forward}
+use Rattle.nm_version.specs.declared.refusal.Refusal.{Refusal}
+use Rattle.nm_version.specs.declared.refusal.Refusal.TheVariants as refusal
+use Rattle.nm_version.specs.declared.row.Row.{Row}
 
 abbrev pub reply_line : List ℕ → List ℕ
 reply_line text = text ++ 10 ∷ []
@@ -18,9 +22,25 @@ reply_line text = text ++ 10 ∷ []
 abbrev pub numbered : List ℕ → ℕ → List ℕ
 numbered word number = reply_line (word ++ codes " " ++ decimal number)
 
--- a document behind its length
+-- bytes behind their length
+abbrev pub with_length : List ℕ → List ℕ → List ℕ
+with_length word bytes = numbered word (length bytes) ++ bytes
+
+-- the document of an assembly
 abbrev pub document_reply : List ℕ → List ℕ
-document_reply bytes = numbered (codes "document") (length bytes) ++ bytes
+document_reply bytes = with_length (codes "document") bytes
+
+-- the log as a stream of a session
+abbrev pub log_reply : List ℕ → List ℕ
+log_reply bytes = with_length (codes "log") bytes
+
+-- a project, its day, and its current model
+abbrev pub row_line : Row → List ℕ
+row_line row = reply_line (uuid_text row.project ++ codes " " ++ row.day ++ codes " " ++ uuid_text row.current)
+
+-- rows behind their number
+abbrev pub projects_reply : List Row → List ℕ
+projects_reply rows = numbered (codes "projects") (length rows) ++ flat_map row_line rows
 
 abbrev pub summary_reply : ℕ → ℕ → ℕ → List ℕ
 summary_reply commits projects statements =
@@ -41,27 +61,34 @@ limit_name L10 = codes "L10"
 limit_name L11 = codes "L11"
 limit_name L12 = codes "L12"
 
-abbrev pub part_name : Part → List ℕ
-part_name Precondition = codes "precondition"
-part_name Reverse = codes "reverse"
-part_name Forward = codes "forward"
+-- what does not fit
+abbrev pub cause_text : Cause → List ℕ
+cause_text (Dependency id) = codes "dependency " ++ uuid_text id
+cause_text (Precondition statement) = codes "precondition " ++ line_of statement
+cause_text (Reverse statement) = codes "reverse " ++ line_of statement
+cause_text (Forward statement) = codes "forward " ++ line_of statement
 
-abbrev pub step_text : Break → List ℕ
-step_text found =
-    found.day ++ codes " " ++ uuid_text found.model ++ codes " " ++ part_name found.part ++ codes " "
-    ++ line_of found.statement
+-- the day and the model of a step, and what does not fit
+abbrev pub step_text : List ℕ → ℕ → Cause → List ℕ
+step_text day model cause = day ++ codes " " ++ uuid_text model ++ codes " " ++ cause_text cause
 
 -- what a refusal says; want of memory is not said
 abbrev pub refusal_text : Refusal → List ℕ
 refusal_text refusal.Kind = codes "kind"
+refusal_text (refusal.Unknown id) = codes "unknown " ++ uuid_text id
+refusal_text (refusal.NotSuperseding id) = codes "superseding " ++ uuid_text id
 refusal_text (refusal.InUse id) = codes "inuse " ++ uuid_text id
 refusal_text (refusal.Limit limit) = codes "limit " ++ limit_name limit
-refusal_text (refusal.Step found) = codes "step " ++ step_text found
+refusal_text (refusal.Step day model cause) = codes "step " ++ step_text day model cause
 refusal_text refusal.NoMemory = []
 
 abbrev pub refused_reply : Refusal → List ℕ
 refused_reply refusal = reply_line (codes "refused " ++ refusal_text refusal)
 
--- the reply to a document that is not canonical
-abbrev pub not_canonical_reply : List ℕ
-not_canonical_reply = reply_line (codes "refused notcanonical")
+-- a word, and the place and the code of a fault
+abbrev pub fault_line : List ℕ → Fault → List ℕ
+fault_line word fault = reply_line (word ++ codes " " ++ decimal fault.at ++ codes " " ++ code_text fault.code)
+
+-- the reply to a document with a fault
+abbrev pub refused_document_reply : Fault → List ℕ
+refused_document_reply fault = fault_line (codes "refused document") fault

@@ -1,6 +1,8 @@
--- How a session ends that stops before its last command.
+-- How a session ends that stops before its last command, and how a document that is not written whole stops it.
 use Rattle.nm_base.specs.declared.outcome.Status.{Status}
 use Rattle.nm_base.specs.declared.outcome.Status.TheVariants as statuses
+use Rattle.nm_writer.specs.declared.error.WriteError.{WriteError}
+use Rattle.nm_writer.specs.declared.error.WriteError.TheVariants as write_error
 use Rattle.nm_cli.specs.declared.stop.Stop.{Stop}
 use Rattle.nm_cli.specs.declared.stop.Stop.TheVariants.{ReadFault, WriteFault, NoMemory, BadLine, Cut, TooMuch}
 
@@ -11,3 +13,7 @@ status_of NoMemory = statuses.NoMemory
 status_of (BadLine at) = statuses.BadSession
 status_of Cut = statuses.Cut
 status_of TooMuch = statuses.TooMuch
+
+abbrev pub stop_of : WriteError → Stop
+stop_of write_error.Fault = WriteFault
+stop_of write_error.NoMemory = NoMemory

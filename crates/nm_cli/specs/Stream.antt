@@ -9,7 +9,7 @@ use Rattle.nm_cli.specs.Word.{word_of, body_length}
 use Rattle.nm_cli.specs.declared.turn.State.{State}
 use Rattle.nm_cli.specs.declared.turn.State.TheVariants.{Empty}
 use Rattle.nm_cli.specs.declared.word.Word.{Word}
-use Rattle.nm_cli.specs.declared.word.Word.TheVariants.{Base, File, Assemble, Summary, End}
+use Rattle.nm_cli.specs.declared.word.Word.TheVariants.{Base, File, Revise, Redate, Withdraw, Assemble, Projects, Log, Summary, End}
 
 -- what stands next in a stream: a whole command with its body and what comes behind it, a line that is
 -- no command, or less than either
@@ -56,7 +56,12 @@ behind_reply reply outcome = record { replies = reply ++ outcome.replies; ending
 abbrev pub behind_command : Word → Turn → Outcome → Outcome
 behind_command (Base len) turn others = behind_reply turn.reply others
 behind_command (File day len) turn others = behind_reply turn.reply others
+behind_command (Revise project len) turn others = behind_reply turn.reply others
+behind_command (Redate project day) turn others = behind_reply turn.reply others
+behind_command (Withdraw project) turn others = behind_reply turn.reply others
 behind_command (Assemble day) turn others = behind_reply turn.reply others
+behind_command Projects turn others = behind_reply turn.reply others
+behind_command Log turn others = behind_reply turn.reply others
 behind_command (Summary day) turn others = behind_reply turn.reply others
 behind_command End turn others = record { replies = turn.reply; ending = Done }
 

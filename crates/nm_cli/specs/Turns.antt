@@ -15,13 +15,18 @@ use Rattle.nm_cli.specs.declared.stop.Stop.{Stop}
 use Rattle.nm_cli.specs.declared.stop.Stop.TheVariants as stops
 use Rattle.nm_cli.specs.declared.turn.State.{State}
 use Rattle.nm_cli.specs.declared.word.Word.{Word}
-use Rattle.nm_cli.specs.declared.word.Word.TheVariants.{Base, File, Assemble, Summary, End}
+use Rattle.nm_cli.specs.declared.word.Word.TheVariants.{Base, File, Revise, Redate, Withdraw, Assemble, Projects, Log, Summary, End}
 
 -- whether the command is the last of its session
 abbrev pub is_end : Word → Bool
 is_end (Base len) = false
 is_end (File day len) = false
+is_end (Revise project len) = false
+is_end (Redate project day) = false
+is_end (Withdraw project) = false
 is_end (Assemble day) = false
+is_end Projects = false
+is_end Log = false
 is_end (Summary day) = false
 is_end End = true
 

@@ -1,15 +1,19 @@
 // Replies of a session.
 ghost use Rattle.nm_cli.specs.Reply as spec;
-ghost use Rattle.nm_cli.specs.declared.refusal.Refusal.TheVariants as refusals;
+ghost use Rattle.nm_cli.specs.Report as report_spec;
+ghost use Rattle.nm_version.specs.declared.refusal.Refusal.TheVariants as refusals;
+ghost use Rattle.nm_statement.specs.Line as lines;
 ghost use Rattle.std.specs.Fmt.{decimal};
 ghost use Rattle.std.specs.List.{flat_map};
 ghost use Rattle.std.specs.Prelude.{◌≡◌, ◌≢◌, ◌++◌, IfOk, OnOk, codes};
 
-use crate::day::Day;
-use crate::refusal::{Break, Part, Refusal};
 use nm_base::{Limit, NoMemory};
+use nm_day::Day;
 use nm_ident::id_text;
-use nm_statement::line;
+use nm_model::Document;
+use nm_reader::Fault;
+use nm_statement::{Statement, line};
+use nm_version::{Cause, Refusal, Row};
 use std::alloc::Global;
 
 /// A line of these pieces.
@@ -29,26 +33,101 @@ pub fn numbered(alloc: Global, word: &[u8], number: u64) -> Result<Vec<u8>, NoMe
     line_of(alloc, &[word, b" ", digits.as_bytes()])
 }
 
-/// The document of an assembly, behind its length.
-pub fn document(alloc: Global, bytes: &[u8]) -> Result<Vec<u8>, NoMemory>
-    ensures { IfOk result (λ out. out.items ≡ spec.document_reply bytes.now) }
+/// Bytes behind a word and their length.
+pub fn with_length(alloc: Global, word: &[u8], bytes: &[u8]) -> Result<Vec<u8>, NoMemory>
+    ensures { IfOk result (λ out. out.items ≡ spec.with_length word.now bytes.now) }
 {
-    let mut out = numbered(alloc, b"document", bytes.len() as u64)?;
+    let mut out = numbered(alloc, word, bytes.len() as u64)?;
     out.extend_from_slice(bytes)?;
+    Ok(out)
+}
+
+/// The rows of the live projects behind their number.
+pub fn projects(alloc: Global, rows: &[Row]) -> Result<Vec<u8>, NoMemory>
+    ensures { IfOk result (λ out. out.items ≡ spec.projects_reply rows.now) }
+{
+    let mut out = numbered(alloc, b"projects", rows.len() as u64)?;
+    for row in rows {
+        append_row(&mut out, row)?;
+    }
+    Ok(out)
+}
+
+/// `ID DAY CURRENT` of a live project.
+fn append_row(out: &mut Vec<u8>, row: &Row) -> Result<(), NoMemory>
+    ensures { OnOk result (out.new.items ≡ out.old.items ++ spec.row_line row.now) }
+{
+    out.extend_from_slice(&id_text(row.project))?;
+    out.push(b' ')?;
+    out.extend_from_slice(&row.day.text())?;
+    out.push(b' ')?;
+    out.extend_from_slice(&id_text(row.current))?;
+    out.push(b'\n')?;
+    Ok(())
+}
+
+/// `WORD AT CODE` of a fault.
+fn fault_line(alloc: Global, word: &[u8], fault: Fault) -> Result<Vec<u8>, NoMemory>
+    ensures { IfOk result (λ line. line.items ≡ spec.fault_line word.now fault) }
+{
+    let at = fault.at.to_string(alloc)?;
+    let mut out = word.to_vec(alloc)?;
+    out.push(b' ')?;
+    out.extend_from_slice(at.as_bytes())?;
+    out.push(b' ')?;
+    out.extend_from_slice(fault.code.text())?;
+    out.push(b'\n')?;
+    Ok(out)
+}
+
+/// The reply to a document with a fault.
+pub fn refused_document(alloc: Global, fault: Fault) -> Result<Vec<u8>, NoMemory>
+    ensures { IfOk result (λ line. line.items ≡ spec.refused_document_reply fault) }
+{
+    fault_line(alloc, b"refused document", fault)
+}
+
+/// The report of a fault.
+pub fn fault_report(alloc: Global, fault: Fault) -> Result<Vec<u8>, NoMemory>
+    ensures { IfOk result (λ line. line.items ≡ report_spec.fault_report fault) }
+{
+    fault_line(alloc, b"fault", fault)
+}
+
+/// The identifier of a model, and how many statements it has.
+pub fn counts_line(alloc: Global, document: &Document) -> Result<Vec<u8>, NoMemory>
+    ensures { IfOk result (λ out. out.items ≡ report_spec.counts_line document.now) }
+{
+    let mut out = Vec::new(alloc);
+    match document {
+        Document::Full(full) => {
+            out.extend_from_slice(b"full ")?;
+            out.extend_from_slice(&id_text(full.header.id))?;
+            append_count(alloc, &mut out, b" ", full.statements.len())?;
+        }
+        Document::Difference(difference) => {
+            out.extend_from_slice(b"difference ")?;
+            out.extend_from_slice(&id_text(difference.header.id))?;
+            append_count(alloc, &mut out, b" ", difference.change.pre.len())?;
+            append_count(alloc, &mut out, b" ", difference.change.rev.len())?;
+            append_count(alloc, &mut out, b" ", difference.change.fwd.len())?;
+        }
+    }
+    out.push(b'\n')?;
     Ok(out)
 }
 
 /// The counts of a day.
 pub fn summary(
     alloc: Global,
-    commits: usize,
+    commits: u32,
     projects: usize,
     statements: usize,
 ) -> Result<Vec<u8>, NoMemory>
     ensures { IfOk result (λ out. out.items ≡ spec.summary_reply commits projects statements) }
 {
     let mut out = Vec::new(alloc);
-    append_count(alloc, &mut out, b"summary commits ", commits)?;
+    append_count(alloc, &mut out, b"summary commits ", commits as usize)?;
     append_count(alloc, &mut out, b" projects ", projects)?;
     append_count(alloc, &mut out, b" statements ", statements)?;
     out.push(b'\n')?;
@@ -71,9 +150,11 @@ pub fn refused(alloc: Global, refusal: &Refusal) -> Result<Vec<u8>, NoMemory>
 {
     match refusal {
         Refusal::Kind => line_of(alloc, &[b"refused kind"]),
+        Refusal::Unknown(id) => line_of(alloc, &[b"refused unknown ", &id_text(*id)]),
+        Refusal::NotSuperseding(id) => line_of(alloc, &[b"refused superseding ", &id_text(*id)]),
         Refusal::InUse(id) => line_of(alloc, &[b"refused inuse ", &id_text(*id)]),
         Refusal::Limit(limit) => line_of(alloc, &[b"refused limit ", limit_name(*limit)]),
-        Refusal::Step(found) => refused_step(alloc, found),
+        Refusal::Step { day, model, cause } => refused_step(alloc, *day, *model, cause),
         Refusal::NoMemory => Err(NoMemory),
     }
 }
@@ -97,31 +178,48 @@ fn limit_name(limit: Limit) -> &'static [u8]
     }
 }
 
-fn part_name(part: Part) -> &'static [u8]
-    ensures { result.now ≡ spec.part_name part }
+/// The day and the model of a step, and what does not fit.
+fn refused_step(alloc: Global, day: Day, model: u128, cause: &Cause) -> Result<Vec<u8>, NoMemory>
+    ensures { IfOk result (λ out. out.items ≡ spec.reply_line (codes "refused step " ++ spec.step_text day model cause.now)) }
 {
-    match part {
-        Part::Precondition => b"precondition",
-        Part::Reverse => b"reverse",
-        Part::Forward => b"forward",
-    }
-}
-
-fn refused_step(alloc: Global, found: &Break) -> Result<Vec<u8>, NoMemory>
-    ensures { IfOk result (λ out. out.items ≡ spec.reply_line (codes "refused step " ++ spec.step_text found.now)) }
-{
-    let statement = line(alloc, &found.statement)?;
+    let cause = cause_text(alloc, cause)?;
     line_of(
         alloc,
         &[
             b"refused step ",
-            &found.day.text(),
+            &day.text(),
             b" ",
-            &id_text(found.model),
+            &id_text(model),
             b" ",
-            part_name(found.part),
-            b" ",
-            &statement,
+            &cause,
         ],
     )
+}
+
+/// What does not fit.
+fn cause_text(alloc: Global, cause: &Cause) -> Result<Vec<u8>, NoMemory>
+    ensures { IfOk result (λ text. text.items ≡ spec.cause_text cause.now) }
+{
+    match cause {
+        Cause::Dependency(id) => texts(alloc, b"dependency ", &id_text(*id)),
+        Cause::Precondition(statement) => statement_text(alloc, b"precondition ", statement),
+        Cause::Reverse(statement) => statement_text(alloc, b"reverse ", statement),
+        Cause::Forward(statement) => statement_text(alloc, b"forward ", statement),
+    }
+}
+
+/// A word, and the line that reports a statement.
+fn statement_text(alloc: Global, word: &[u8], statement: &Statement) -> Result<Vec<u8>, NoMemory>
+    ensures { IfOk result (λ text. text.items ≡ word.now ++ lines.line_of statement.now) }
+{
+    texts(alloc, word, &line(alloc, statement)?)
+}
+
+/// Two texts, one behind the other.
+fn texts(alloc: Global, first: &[u8], second: &[u8]) -> Result<Vec<u8>, NoMemory>
+    ensures { IfOk result (λ text. text.items ≡ first.now ++ second.now) }
+{
+    let mut text = first.to_vec(alloc)?;
+    text.extend_from_slice(second)?;
+    Ok(text)
 }

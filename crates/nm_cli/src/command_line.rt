@@ -1,20 +1,35 @@
-// The forms of the command line.
-ghost use Rattle.std.specs.Prelude.{◌≡◌, ◌≤◌, ◌↔◌, map, false, IfSome, IsTrue, string_bytes};
+// A run of the program, over its input and its output.
+ghost use Rattle.std.specs.Prelude.{◌≡◌, ◌≤◌, ◌↔◌, map, None, IfSome, string_bytes};
 ghost use Rattle.nm_base.specs.declared.outcome.Status.TheVariants.{Usage};
-ghost use Rattle.nm_cli.specs.Answered.{AnswersStream, AnswersUnlessFaults, HasCause, Untouched};
-ghost use Rattle.nm_cli.specs.CommandLine.{is_session};
+ghost use Rattle.nm_cli.specs.Answered.{Answers, EndsUnlessFaults, Untouched};
+ghost use Rattle.nm_cli.specs.CommandLine.{form_of};
+ghost use Rattle.nm_cli.specs.Forms.{outcome_by, FormHasCause, FormReads};
 
+use crate::form::Form;
+use crate::report::{Report, report_on};
 use crate::stream::session;
 use nm_base::{Sink, Source, Status};
 use std::alloc::Global;
 
-/// Runs the form that the words after the program's name are.
+/// Runs the form that the words after the program's name are, which is one word alone:
 ///
-/// The one form is the one word `session`, which answers as [`session`](crate::session) says. Other
-/// words are `Usage`: nothing is read or written then.
+/// - `session` answers the commands of a session stream, as [`session`](crate::session) says.
+/// - `canon` reads a document and writes its canonical document. The status is `Done`.
+/// - `check` reads a document and writes `full ID N`, the identifier of the full model and the
+///   number of its statements, or `difference ID P R F`, the identifier of the difference model and
+///   the numbers of its preconditions, its reverse and its forward differences. The status is
+///   `Done`.
+///
+/// Where a document has a fault, `canon` and `check` write `fault AT CODE`, its place in bytes and
+/// the name of its code, and the status is `Refused`. Both read the input to its end before they
+/// answer, or to more than the 67,108,864 bytes that a document may have.
+///
+/// With any other words the status is `Usage`, and nothing is read or written. `ReadFault` and
+/// `WriteFault` say that the input or the output failed, and `NoMemory` that memory ran out: some
+/// of the first bytes of what was due were written then.
 ///
 /// ```text
-/// let words = vec![in alloc; "session".to_string(alloc)?]?;
+/// let words = vec![in alloc; "canon".to_string(alloc)?]?;
 /// let status = run(alloc, &words, &mut source, &mut sink);
 /// ```
 pub fn run<S: Source, K: Sink>(
@@ -23,37 +38,46 @@ pub fn run<S: Source, K: Sink>(
     input: &mut S,
     output: &mut K,
 ) -> Status
-    // Other words, and nothing else, are `Usage`.
-    ensures usage { result ≡ Usage ↔ is_session (map string_bytes words.now.items) ≡ false }
-    ensures unread { is_session (map string_bytes words.now.items) ≡ false → Untouched (S.left input.old) (S.left input.new) (S.faults input.old) (S.faults input.new) }
-    ensures unwritten { is_session (map string_bytes words.now.items) ≡ false → Untouched (K.written output.old) (K.written output.new) (K.faults output.old) (K.faults output.new) }
+    // Words that are no form, and nothing else, are `Usage`.
+    ensures usage { result ≡ Usage ↔ form_of (map string_bytes words.now.items) ≡ None }
+    ensures unread { form_of (map string_bytes words.now.items) ≡ None → Untouched (S.left input.old) (S.left input.new) (S.faults input.old) (S.faults input.new) }
+    ensures unwritten { form_of (map string_bytes words.now.items) ≡ None → Untouched (K.written output.old) (K.written output.new) (K.faults output.old) (K.faults output.new) }
 
-    // A session is answered as its stream is defined to be.
-    ensures answers { IsTrue (is_session (map string_bytes words.now.items)) → IfSome (S.left input.old) (λ stream.
-        AnswersStream stream result (K.written output.old) (K.written output.new)) }
-    ensures cause { IsTrue (is_session (map string_bytes words.now.items)) →
-        HasCause result (S.faults input.old) (S.faults input.new) (K.faults output.old) (K.faults output.new) }
-    ensures complete { IsTrue (is_session (map string_bytes words.now.items)) → IfSome (S.left input.old) (λ stream.
-        AnswersUnlessFaults stream result (K.written output.old) (K.written output.new) (S.faults input.old) (S.faults input.new) (K.faults output.old) (K.faults output.new)) }
+    // A form is answered as it is due on the bytes that the input had left.
+    ensures answers { IfSome (form_of (map string_bytes words.now.items)) (λ form. IfSome (S.left input.old) (λ bytes.
+        Answers (outcome_by form bytes) result (K.written output.old) (K.written output.new))) }
+    ensures cause { IfSome (form_of (map string_bytes words.now.items)) (λ form.
+        FormHasCause form result (S.faults input.old) (S.faults input.new) (K.faults output.old) (K.faults output.new)) }
+    ensures complete { IfSome (form_of (map string_bytes words.now.items)) (λ form. IfSome (S.left input.old) (λ bytes.
+        EndsUnlessFaults (outcome_by form bytes) result (K.written output.old) (K.written output.new) (S.faults input.old) (S.faults input.new) (K.faults output.old) (K.faults output.new))) }
+    ensures read { IfSome (form_of (map string_bytes words.now.items)) (λ form. FormReads form result (S.left input.old) (S.left input.new)) }
 
     ensures reads_kept { S.faults input.old ≤ S.faults input.new }
     ensures writes_kept { K.faults output.old ≤ K.faults output.new }
     ensures source_beside { S.beside input.new ≡ S.beside input.old }
     ensures sink_beside { K.beside output.new ≡ K.beside output.old }
 {
-    if is_session(words) {
-        session(alloc, input, output)
-    } else {
-        Status::Usage
+    match Form::parse(words) {
+        Some(form) => perform(alloc, form, input, output),
+        None => Status::Usage,
     }
 }
 
-/// Whether the words are the form `session`.
-fn is_session(words: &Vec<String>) -> bool
-    ensures { result ≡ is_session (map string_bytes words.now.items) }
+/// Runs one form.
+fn perform<S: Source, K: Sink>(alloc: Global, form: Form, input: &mut S, output: &mut K) -> Status
+    ensures answers { IfSome (S.left input.old) (λ bytes. Answers (outcome_by form bytes) result (K.written output.old) (K.written output.new)) }
+    ensures cause { FormHasCause form result (S.faults input.old) (S.faults input.new) (K.faults output.old) (K.faults output.new) }
+    ensures complete { IfSome (S.left input.old) (λ bytes.
+        EndsUnlessFaults (outcome_by form bytes) result (K.written output.old) (K.written output.new) (S.faults input.old) (S.faults input.new) (K.faults output.old) (K.faults output.new)) }
+    ensures read { FormReads form result (S.left input.old) (S.left input.new) }
+    ensures reads_kept { S.faults input.old ≤ S.faults input.new }
+    ensures writes_kept { K.faults output.old ≤ K.faults output.new }
+    ensures source_beside { S.beside input.new ≡ S.beside input.old }
+    ensures sink_beside { K.beside output.new ≡ K.beside output.old }
 {
-    match words.as_slice() {
-        [form] => form.as_str() == "session",
-        _ => false,
+    match form {
+        Form::Session => session(alloc, input, output),
+        Form::Canon => report_on(alloc, Report::Canonical, input, output),
+        Form::Check => report_on(alloc, Report::Counts, input, output),
     }
 }

@@ -1,22 +1,19 @@
-//! The commands of `nm`: the forms of the command line, the session, and the store behind it.
+//! The commands of `nm`: the forms of the command line, and the session over a store.
 #![tactic(auto)]
 
 mod answer;
-mod assembly;
+mod changes;
 mod command_line;
-mod day;
 mod digits;
-mod filing;
+mod form;
 mod input;
 mod limits;
-mod order;
-mod project;
-mod refusal;
-mod replay;
+mod output;
+mod report;
 mod stop;
-mod store;
 mod stream;
 mod turn;
+mod whole_input;
 mod word;
 
 pub use command_line::run;

@@ -1,9 +1,10 @@
 // Why a session takes no further command.
-ghost use Rattle.nm_cli.specs.Stops.{status_of};
+ghost use Rattle.nm_cli.specs.Stops.{status_of, stop_of};
 ghost use Rattle.nm_cli.specs.declared.stop.Stop.TheVariants as stops;
 ghost use Rattle.std.specs.Prelude.{◌≡◌};
 
 use nm_base::{NoMemory, Status};
+use nm_writer::WriteError;
 
 /// Why a session takes no further command.
 #[derive(Clone, Copy, Debug, PartialEq, Eq)]
@@ -43,5 +44,16 @@ impl From<NoMemory> for Stop {
 
     fn from(_: NoMemory) -> Stop {
         Stop::NoMemory
+    }
+}
+
+impl From<WriteError> for Stop {
+    ghost from_gives = { λ error stop. stop ≡ stop_of error };
+
+    fn from(error: WriteError) -> Stop {
+        match error {
+            WriteError::Fault => Stop::WriteFault,
+            WriteError::NoMemory => Stop::NoMemory,
+        }
     }
 }

@@ -17,10 +17,11 @@ ghost use Rattle.nm_cli.specs.declared.stop.Stop.TheVariants as stops;
 
 use crate::answer::numbered;
 use crate::input::Input;
+use crate::output::write_out;
 use crate::stop::Stop;
 use crate::turn::{State, step};
 use crate::word::Word;
-use nm_base::{Sink, Source, Status, write_whole};
+use nm_base::{Sink, Source, Status};
 use std::alloc::Global;
 
 /// Answers the commands of a session stream, each before the next one is taken.
@@ -79,7 +80,7 @@ fn turn<S: Source, K: Sink>(
     let (word, body) = take_command(alloc, input, state, source)?;
     let is_last = is_end(&word);
     let reply = step(alloc, state, word, body)?;
-    write_reply(sink, &reply)?;
+    write_out(sink, &reply)?;
     Ok(is_last)
 }
 
@@ -127,16 +128,6 @@ fn is_end(word: &Word) -> bool
     matches!(word, Word::End)
 }
 
-/// Writes a reply whole.
-fn write_reply<K: Sink>(sink: &mut K, reply: &[u8]) -> Result<(), Stop>
-    ensures whole { OnOk result (Appends (K.written sink.old) (K.written sink.new) reply.now) }
-    ensures front { IfErr result (λ stop. (stop ≡ stops.WriteFault) × AppendsFront (K.written sink.old) (K.written sink.new) reply.now) }
-    ensures counted { CountsFaults (K.faults sink.old) (K.faults sink.new) result }
-    ensures beside_stays { K.beside sink.new ≡ K.beside sink.old }
-{
-    write_whole(sink, reply).map_err(|_| Stop::WriteFault)
-}
-
 /// The status of a session that stopped, after the line that names a bad one's offset.
 fn ended<K: Sink>(alloc: Global, stop: Stop, sink: &mut K) -> Status
     ensures ends { EndsWith stop result (K.written sink.old) (K.written sink.new) (K.faults sink.old) (K.faults sink.new) }
@@ -162,5 +153,5 @@ fn name_bad_line<K: Sink>(alloc: Global, at: u64, sink: &mut K) -> Result<(), St
     ensures beside_stays { K.beside sink.new ≡ K.beside sink.old }
 {
     let line = numbered(alloc, b"badline", at)?;
-    write_reply(sink, &line)
+    write_out(sink, &line)
 }

@@ -1,21 +1,39 @@
 // The command lines of a session.
 ghost use Rattle.nm_cli.specs.Word as spec;
 ghost use Rattle.nm_model.specs.Limits.{longest_document};
+ghost use Rattle.std.specs.Option.{option_map};
 ghost use Rattle.std.specs.Prelude.{◌≡◌, ◌≤◌, IfSome};
 
-use crate::day::Day;
 use crate::digits::number_within;
+use nm_day::Day;
+use nm_ident::model_id;
 use nm_model::LONGEST_DOCUMENT;
 
+/// The bytes of a day.
+const DAY_LENGTH: usize = 10;
+
+/// The bytes of a project's id.
+const ID_LENGTH: usize = 36;
+
 /// A command line.
-#[derive(Clone, Copy, Debug, PartialEq, Eq)]
+#[derive(Debug, Drop)]
 pub enum Word {
     /// The base, a full model of `len` bytes.
     Base { len: u64 },
     /// A project in service from a day on, a difference model of `len` bytes.
     File { day: Day, len: u64 },
+    /// Another difference model for a project, of `len` bytes.
+    Revise { project: u128, len: u64 },
+    /// Another day for a project.
+    Redate { project: u128, day: Day },
+    /// The end of a project.
+    Withdraw { project: u128 },
     /// The model as it is on a day.
     Assemble { day: Day },
+    /// The live projects.
+    Projects,
+    /// The commands so far.
+    Log,
     /// The numbers of commits, projects, and statements on a day.
     Summary { day: Day },
     /// The end of the session.
@@ -23,13 +41,21 @@ pub enum Word {
 }
 
 impl Word {
-    /// Reads one line without its line feed: `base LEN`, `file DAY LEN`, `assemble DAY`,
-    /// `summary DAY` or `end`, with single spaces. `None` for any
+    /// Reads one line without its line feed: `base LEN`, `file DAY LEN`, `revise ID LEN`,
+    /// `redate ID DAY`, `withdraw ID`, `assemble DAY`, `projects`, `log`, `summary DAY` or `end`,
+    /// with single spaces. `ID` is a UUID of 36 characters in either letter case. `None` for any
     /// other line.
+    #[tactic(auto, unfolding(crate::specs::Word::word_of))]
     pub fn parse(line: &[u8]) -> Option<Word>
         ensures word { result ≡ spec.word_of line.now }
         ensures bound { IfSome result (λ word. spec.body_length word ≤ longest_document) }
     {
+        if line == b"projects".as_slice() {
+            return Some(Word::Projects);
+        }
+        if line == b"log".as_slice() {
+            return Some(Word::Log);
+        }
         if line == b"end".as_slice() {
             return Some(Word::End);
         }
@@ -46,13 +72,19 @@ impl Word {
         ensures { result ≡ spec.body_length self.now }
     {
         match self {
-            Word::Base { len } | Word::File { len, .. } => *len,
-            Word::Assemble { .. } | Word::Summary { .. } | Word::End => 0,
+            Word::Base { len } | Word::File { len, .. } | Word::Revise { len, .. } => *len,
+            Word::Redate { .. }
+            | Word::Withdraw { .. }
+            | Word::Assemble { .. }
+            | Word::Projects
+            | Word::Log
+            | Word::Summary { .. }
+            | Word::End => 0,
         }
     }
 }
 
-/// Reads a line that begins with another word than `base` and names a day.
+/// Reads a line that names a day, or a project.
 #[tactic(auto, unfolding(crate::specs::Word::dated_line))]
 fn dated_line(line: &[u8]) -> Option<Word>
     ensures word { result ≡ spec.dated_line line.now }
@@ -60,12 +92,12 @@ fn dated_line(line: &[u8]) -> Option<Word>
 {
     if let Some(day) = line.strip_prefix(b"assemble ") {
         return Some(Word::Assemble {
-            day: Day::parse(day)?,
+            day: Day::parse(day).ok()?,
         });
     }
     if let Some(day) = line.strip_prefix(b"summary ") {
         return Some(Word::Summary {
-            day: Day::parse(day)?,
+            day: Day::parse(day).ok()?,
         });
     }
     file_line(line)
@@ -75,21 +107,89 @@ fn file_line(line: &[u8]) -> Option<Word>
     ensures word { result ≡ spec.file_line line.now }
     ensures bound { IfSome result (λ word. spec.body_length word ≤ longest_document) }
 {
-    file_of(line.strip_prefix(b"file ")?)
+    match line.strip_prefix(b"file ") {
+        Some(words) => file_of(words),
+        None => project_line(line),
+    }
+}
+
+/// Reads a line that names a project.
+#[tactic(auto, unfolding(crate::specs::Word::project_line))]
+fn project_line(line: &[u8]) -> Option<Word>
+    ensures word { result ≡ spec.project_line line.now }
+    ensures bound { IfSome result (λ word. spec.body_length word ≤ longest_document) }
+{
+    if let Some(words) = line.strip_prefix(b"revise ") {
+        return revise_of(words);
+    }
+    if let Some(words) = line.strip_prefix(b"redate ") {
+        return redate_of(words);
+    }
+    withdraw_line(line)
+}
+
+fn withdraw_line(line: &[u8]) -> Option<Word>
+    ensures word { result ≡ spec.withdraw_line line.now }
+    ensures bound { IfSome result (λ word. spec.body_length word ≤ longest_document) }
+{
+    let project = model_id(line.strip_prefix(b"withdraw ")?)?;
+    Some(Word::Withdraw { project })
 }
 
 /// Reads the day and the length of a `file` line.
-#[tactic(auto, unfolding(crate::specs::Word::file_of))]
 fn file_of(words: &[u8]) -> Option<Word>
     ensures word { result ≡ spec.file_of words.now }
     ensures bound { IfSome result (λ word. spec.body_length word ≤ longest_document) }
 {
-    let (day, rest) = words.split_at_checked(10)?;
-    let len = length_of(rest.strip_prefix(b" ")?)?;
-    Some(Word::File {
-        day: Day::parse(day)?,
-        len,
-    })
+    let Some((day, len)) = day_and_rest(words) else {
+        return None;
+    };
+    let len = length_of(len)?;
+    Some(Word::File { day, len })
+}
+
+/// Reads the project and the length of a `revise` line.
+fn revise_of(words: &[u8]) -> Option<Word>
+    ensures word { result ≡ spec.revise_of words.now }
+    ensures bound { IfSome result (λ word. spec.body_length word ≤ longest_document) }
+{
+    let (project, len) = id_and_rest(words)?;
+    let len = length_of(len)?;
+    Some(Word::Revise { project, len })
+}
+
+/// Reads the project and the day of a `redate` line.
+fn redate_of(words: &[u8]) -> Option<Word>
+    ensures word { result ≡ spec.redate_of words.now }
+    ensures bound { IfSome result (λ word. spec.body_length word ≤ longest_document) }
+{
+    let (project, day) = id_and_rest(words)?;
+    let day = Day::parse(day).ok()?;
+    Some(Word::Redate { project, day })
+}
+
+/// The day that a space stands behind, and what stands behind the space.
+#[tactic(auto, unfolding(crate::specs::Word::day_before_space))]
+fn day_and_rest(words: &[u8]) -> Option<(Day, &[u8])>
+    ensures day { option_map (λ parts. parts.0) result ≡ spec.day_before_space words.now }
+    ensures rest { IfSome result (λ parts. parts.1.now ≡ spec.behind_space 10 words.now) }
+{
+    let (day, rest) = words.split_at_checked(DAY_LENGTH)?;
+    let rest = rest.strip_prefix(b" ")?;
+    let day = Day::parse(day).ok()?;
+    Some((day, rest))
+}
+
+/// The project whose id a space stands behind, and what stands behind the space.
+#[tactic(auto, unfolding(crate::specs::Word::id_before_space))]
+fn id_and_rest(words: &[u8]) -> Option<(u128, &[u8])>
+    ensures id { option_map (λ parts. parts.0) result ≡ spec.id_before_space words.now }
+    ensures rest { IfSome result (λ parts. parts.1.now ≡ spec.behind_space 36 words.now) }
+{
+    let (id, rest) = words.split_at_checked(ID_LENGTH)?;
+    let rest = rest.strip_prefix(b" ")?;
+    let project = model_id(id)?;
+    Some((project, rest))
 }
 
 /// The length that decimal digits without a leading zero spell, at most a document's.

@@ -1,18 +1,10 @@
-//! Documents and whole sessions, as tests over memory: what the crates do together, and that they
-//! have memory enough to do it.
+//! Whole runs of the program, as tests over memory: sessions and the forms on documents, and that
+//! there is memory enough for them.
 #![tactic(auto)]
 
 #[cfg(test)]
-mod documents;
+mod commands;
 #[cfg(test)]
-mod large;
-#[cfg(test)]
-mod models;
-#[cfg(test)]
-mod pieces;
-#[cfg(test)]
-mod sessions;
+mod forms;
 #[cfg(test)]
 mod tests;
-#[cfg(test)]
-mod writing;

@@ -1,10 +1,10 @@
-use crate::sessions::{
+use nm_base::{MemorySink, MemorySource, Status, SteadySink, SteadySource};
+use nm_cli::run;
+use nm_samples::{
     ANOTHER_NAME, ANOTHER_NAME_REPLIES, BARE_BASE, BARE_BASE_REPLIES, FIRST_AND_LAST_DAY,
     FIRST_AND_LAST_DAY_REPLIES, NORTH, NORTH_REPLIES, RENAMED, RENAMED_AGAIN,
     RENAMED_AGAIN_REPLIES, RENAMED_REPLIES,
 };
-use nm_base::{MemorySink, MemorySource, Status, SteadySink, SteadySource};
-use nm_cli::run;
 use std::alloc::Global;
 use std::test::Fail;
 
@@ -13,15 +13,15 @@ const BASE_LENGTH: usize = 471;
 
 const BASE_REPLY: &[u8] = b"ok 0\n";
 
-/// What comes of a session: the status, and what was written.
+/// What comes of a run: the status, and what was written.
 #[derive(Drop)]
-struct Outcome {
-    status: Status,
-    written: Vec<u8>,
+pub struct Outcome {
+    pub status: Status,
+    pub written: Vec<u8>,
 }
 
 /// Runs the words on a stream, where the calls of the source and of the sink that are listed fail.
-fn run_words(
+pub fn run_words(
     alloc: Global,
     words: &[&str],
     stream: &[u8],
@@ -84,6 +84,7 @@ fn has_bad_line_after_base(alloc: Global, rest: &[u8]) -> Result<bool, Fail> {
 fn a_bad_line_is_named_by_its_place(rt: HostRuntime) -> Result<(), Fail> {
     let alloc = rt.alloc();
     assert!(rt; has_bad_line_after_base(alloc, b"assemble 3000-01-01\nend\n")?);
+    assert!(rt; has_bad_line_after_base(alloc, b"summary 2027-02-31\nend\n")?);
     assert!(rt; has_bad_line_after_base(alloc, &NORTH[..BASE_LENGTH])?);
     assert!(rt; has_bad_line_after_base(alloc, &[b'x'; 257])?);
     assert!(rt; has_bad_line_after_base(alloc, &[b'x'; 258])?);
@@ -143,5 +144,7 @@ fn other_words_are_no_form(rt: HostRuntime) -> Result<(), Fail> {
     assert!(rt; are_no_form(alloc, &[])?);
     assert!(rt; are_no_form(alloc, &["sessions"])?);
     assert!(rt; are_no_form(alloc, &["session", "extra"])?);
+    assert!(rt; are_no_form(alloc, &["check", "canon"])?);
+    assert!(rt; are_no_form(alloc, &["--help"])?);
     Ok(())
 }

@@ -1,5 +1,5 @@
 -- A document is its parts, written one after the other.
-use Rattle.std.proofs.Common.{◌≡◌, ℕ, List, [], ◌∷◌, ◌++◌, true, false, codes, fold, sym, ◌∙◌, ap, append_assoc, append-nil}
+use Rattle.std.proofs.Common.{◌≡◌, ℕ, ◌<◌, length, arith, List, [], ◌∷◌, ◌++◌, true, false, codes, fold, sym, ◌∙◌, ap, append_assoc, append-nil}
 use Rattle.std.proofs.lemmas.List.Sums.{fold-append}
 use Rattle.nm_model.specs.declared.document.Difference.{Difference}
 use Rattle.nm_model.specs.declared.document.Full.{Full}
@@ -72,3 +72,17 @@ difference_written difference namespaces o0 o1 o2 o3 o4 o5 o6 is is0 is1 is2 is3
     six_parts o0 o1 o2 o3 o4 o5 o6 (front dm namespaces) (header_start (codes "dm:DifferenceModel") difference.header.id) (header_lines difference.header)
     (sections namespaces difference.change) (closing (codes "dm:DifferenceModel")) (closing (codes "rdf:RDF")) is0 is1 is2 is3 is4 is5 is6
     ∙ ap (λ (declared : List (List ℕ)). front (declaration (codes "dm") dm_namespace) declared ++ header_start (codes "dm:DifferenceModel") difference.header.id ++ header_lines difference.header ++ sections declared difference.change ++ closing (codes "dm:DifferenceModel") ++ closing (codes "rdf:RDF")) is
+
+-- ---- what is left of a document
+
+pub sections_parts : (start one two three : List ℕ) → ((start ++ one) ++ two) ++ three ≡ start ++ (one ++ two ++ three)
+sections_parts start one two three = simp append_assoc
+
+pub closing_more : (tag : List ℕ) → 0 < length (closing tag)
+closing_more tag = omega arith
+
+pub full_begins : (full : Full) → 0 < length (canonical_full full)
+full_begins full = omega arith
+
+pub difference_begins : (difference : Difference) → 0 < length (canonical_difference difference)
+difference_begins difference = omega arith

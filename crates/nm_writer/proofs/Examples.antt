@@ -13,6 +13,7 @@ use Rattle.nm_statement.specs.declared.statement.Statement.{Statement}
 use Rattle.nm_writer.specs.Canonical.{canonical_difference, canonical_full, class_of_iri, line_feed, namespaces_of}
 use Rattle.nm_text.specs.Escape.{attribute_spelling, text_spelling}
 use Rattle.nm_writer.specs.Namespaces.{prefixes_of}
+use Rattle.nm_writer.specs.Passing.{Leaves}
 
 -- ---- characters
 
@@ -249,3 +250,8 @@ new_name : canonical_difference (record {
     ∷ [])
 unfolding uuid_text uuid_on_literals
 new_name = refl
+
+-- ---- bytes that are given to a sink part by part
+
+two_of_three : Leaves (Some (codes "a")) (Some (codes "abc")) (codes "bcd") (codes "d")
+two_of_three = record { given = codes "bc"; appended = refl; whole = refl }

@@ -1,6 +1,3 @@
 pub mod Namespaces
 pub mod Canonical
-pub mod Gives
-pub mod Reading
-pub mod Plain
-pub mod Laws
+pub mod Passing

@@ -3,9 +3,8 @@ ghost use Rattle.nm_ident.specs.Ident.{id_of};
 ghost use Rattle.nm_ident.specs.Name.{ends_namespace, type_name};
 ghost use Rattle.nm_ident.specs.Order.{name_cmp};
 ghost use Rattle.nm_ident.specs.QualifiedName.{QualifiedName};
-ghost use Rattle.nm_statement.specs.Set.{IsRising};
 ghost use Rattle.nm_text.specs.Escape.{attribute_spelling};
-ghost use Rattle.nm_writer.specs.Canonical.{class_of, class_of_iri, element, element_of, element_start, elements, group_length, identity, is_about, link_line, object_line, properties_of, property_line, IsNamedBy};
+ghost use Rattle.nm_writer.specs.Canonical.{class_of, class_of_iri, element, element_of, element_start, group_length, identity, is_about, link_line, object_line, properties_of, property_line, IsNamedBy};
 ghost use Rattle.std.specs.List.{flat_map, prefix_len};
 ghost use Rattle.std.specs.Ordering.{is_eq};
 ghost use Rattle.std.specs.Prelude.{◌≡◌, ◌≤◌, ◌++◌, length, take, drop, not, codes, reverse, position, MatchOption, None, Some, OnOk};
@@ -13,7 +12,7 @@ ghost use Rattle.std.specs.Prelude.{◌≡◌, ◌≤◌, ◌++◌, length, take
 use crate::lines::{append_all, append_closing, append_value_line};
 use crate::prefixes::{Prefixes, is_rdf};
 use nm_ident::{Ident, Name, NoMemory, is_predicate};
-use nm_statement::{Object, Set, Statement};
+use nm_statement::{Object, Statement};
 use nm_text::append_escaped_attribute;
 use std::alloc::Global;
 
@@ -121,27 +120,8 @@ pub fn element_class(group: &[Statement]) -> Option<(usize, Class<'_>)>
     None
 }
 
-/// Appends the objects of a model or of a section, in order.
-pub fn append_elements(
-    alloc: Global,
-    out: &mut Vec<u8>,
-    is_full: bool,
-    prefixes: &Prefixes,
-    statements: &Set,
-) -> Result<(), NoMemory>
-    ensures { OnOk result (out.new.items ≡ out.old.items ++ elements is_full prefixes.now statements.now) }
-{
-    let mut rest = statements.as_slice();
-    while let [first, ..] = rest {
-        let (group, after) = split_group(rest);
-        append_element(alloc, out, is_full, prefixes, &first.subject, group)?;
-        rest = after;
-    }
-    Ok(())
-}
-
 /// Appends the object of a subject.
-fn append_element(
+pub fn append_element(
     alloc: Global,
     out: &mut Vec<u8>,
     is_full: bool,

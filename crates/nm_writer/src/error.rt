@@ -1,31 +1,34 @@
-// What the reader of canonical documents refuses.
-ghost use Rattle.nm_writer.specs.declared.error.CanonicalError.TheVariants as canonical_error;
+// Why a document is not written whole.
+ghost use Rattle.nm_writer.specs.declared.error.WriteError.TheVariants as write_error;
 ghost use Rattle.std.specs.Prelude.{◌≡◌};
 
+use nm_base::Failed;
 use nm_ident::NoMemory;
-use std::alloc::AllocFailed;
+use thiserror::Error;
 
-/// Why no model was read.
-#[derive(Debug, Drop, PartialEq, Eq)]
-pub enum CanonicalError {
-    /// The bytes are no canonical document of a model that is kept.
-    NotCanonical,
-    /// There is no memory for the model.
+/// Why a document is not written whole.
+#[derive(Clone, Copy, Debug, Error, PartialEq, Eq)]
+pub enum WriteError {
+    /// The sink failed.
+    #[error("the sink failed")]
+    Fault,
+    /// There is no memory for the next part of the document.
+    #[error("no memory is left")]
     NoMemory,
 }
 
-impl From<NoMemory> for CanonicalError {
-    ghost from_gives = { λ _ e. e ≡ canonical_error.NoMemory };
+impl From<Failed> for WriteError {
+    ghost from_gives = { λ _ e. e ≡ write_error.Fault };
 
-    fn from(_: NoMemory) -> CanonicalError {
-        CanonicalError::NoMemory
+    fn from(_: Failed) -> WriteError {
+        WriteError::Fault
     }
 }
 
-impl<T: Drop> From<AllocFailed<T>> for CanonicalError {
-    ghost from_gives = { λ _ e. e ≡ canonical_error.NoMemory };
+impl From<NoMemory> for WriteError {
+    ghost from_gives = { λ _ e. e ≡ write_error.NoMemory };
 
-    fn from(_: AllocFailed<T>) -> CanonicalError {
-        CanonicalError::NoMemory
+    fn from(_: NoMemory) -> WriteError {
+        WriteError::NoMemory
     }
 }

@@ -1,0 +1,51 @@
+-- How a report ends, and what it leaves of its input.
+use Rattle.std.specs.Prelude.{◌≡◌, ℕ, ◌<◌, List, length, Option, ◌⊎◌}
+use Rattle.std.specs.Io.KnownBytes.{Consumes, IsAtEnd}
+use Rattle.nm_base.specs.Faults.{IsRisen}
+use Rattle.nm_base.specs.declared.outcome.Status.{Status}
+use Rattle.nm_base.specs.declared.outcome.Status.TheVariants.{Done, Refused, Usage, ReadFault, WriteFault, NoMemory, BadSession, Cut, TooMuch, DoorFault}
+use Rattle.nm_model.specs.Limits.{longest_document}
+use Rattle.nm_cli.specs.declared.stop.Stop.{Stop}
+use Rattle.nm_cli.specs.declared.stop.Stop.TheVariants as stops
+
+-- a fault is told only where the count of the source's faults, or of the sink's, rose; a report tells nothing
+-- of commands, of a command line or of a listener
+abbrev pub ReportHasCause : Status → ℕ → ℕ → ℕ → ℕ → Type 0
+ReportHasCause ReadFault read_before read_after write_before write_after = IsRisen read_before read_after
+ReportHasCause WriteFault read_before read_after write_before write_after = IsRisen write_before write_after
+ReportHasCause Done read_before read_after write_before write_after = Unit {0}
+ReportHasCause Refused read_before read_after write_before write_after = Unit {0}
+ReportHasCause NoMemory read_before read_after write_before write_after = Unit {0}
+ReportHasCause Usage read_before read_after write_before write_after = ⊥
+ReportHasCause BadSession read_before read_after write_before write_after = ⊥
+ReportHasCause Cut read_before read_after write_before write_after = ⊥
+ReportHasCause TooMuch read_before read_after write_before write_after = ⊥
+ReportHasCause DoorFault read_before read_after write_before write_after = ⊥
+
+-- the input was read to its end, or more of it than a document may have
+pub record IsReadThrough (before after : Option (List ℕ)) : Type 0 where
+  pub taken : List ℕ
+  pub consumed : Consumes before after taken
+  pub through : IsAtEnd after ⊎ (longest_document < length taken)
+
+-- .. unless the source failed, or memory was wanting
+abbrev pub ReadsThrough : Status → Option (List ℕ) → Option (List ℕ) → Type 0
+ReadsThrough status before after = (status ≡ ReadFault → ⊥) → (status ≡ NoMemory → ⊥) → IsReadThrough before after
+
+-- why an input was not read through
+abbrev pub ReadStops : Stop → ℕ → ℕ → Type 0
+ReadStops stops.ReadFault before after = IsRisen before after
+ReadStops stops.NoMemory before after = Unit {0}
+ReadStops stops.WriteFault before after = ⊥
+ReadStops (stops.BadLine at) before after = ⊥
+ReadStops stops.Cut before after = ⊥
+ReadStops stops.TooMuch before after = ⊥
+
+-- why a text was not written whole
+abbrev pub WriteStops : Stop → ℕ → ℕ → Type 0
+WriteStops stops.WriteFault before after = IsRisen before after
+WriteStops stops.NoMemory before after = Unit {0}
+WriteStops stops.ReadFault before after = ⊥
+WriteStops (stops.BadLine at) before after = ⊥
+WriteStops stops.Cut before after = ⊥
+WriteStops stops.TooMuch before after = ⊥
