@@ -1,4 +1,5 @@
 pub mod Dates
 pub mod Orders
+pub mod Numbers
 pub mod OnLiterals
 mod Examples

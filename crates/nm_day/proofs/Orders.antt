@@ -72,11 +72,11 @@ texts_less y m d y' m' d' (inr (year, inr (month, day))) a b c =
     ∙ pair_less d d' [] [] day c
 
 -- what a day is
-record IsDay (text : List ℕ) : Type 0 where
+pub record IsDay (text : List ℕ) : Type 0 where
   pub civil : IsCivil (year_of text) (month_of text) (month_day_of text)
   pub again : text_of (year_of text) (month_of text) (month_day_of text) ≡ text
 
-is_day-facts : (text : List ℕ) → is_day text ≡ true → IsDay text
+pub is_day-facts : (text : List ℕ) → is_day text ≡ true → IsDay text
 unfolding is_day
 is_day-facts text h =
     let parts = both_so (is_spelt text) (is_civil (year_of text) (month_of text) (month_day_of text)) h in
@@ -85,7 +85,7 @@ is_day-facts text h =
       again = (are_digits text (is_spelt-facts text parts.0)).again;
     }
 
-abbrev date_of : (text : List ℕ) → IsDay text → Date
+abbrev pub date_of : (text : List ℕ) → IsDay text → Date
 date_of text h = record {
   year = pos (year_of text);
   month = month_of text;
@@ -95,7 +95,7 @@ date_of text h = record {
   day_in = (h.civil.day_low, h.civil.day_in_month);
 }
 
-epoch_day-date_of : (text : List ℕ) (h : IsDay text) → epoch_day (date_of text h) ≡ number_of text
+pub epoch_day-date_of : (text : List ℕ) (h : IsDay text) → epoch_day (date_of text h) ≡ number_of text
 unfolding number_of
 epoch_day-date_of text h = refl
 

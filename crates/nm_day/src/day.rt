@@ -5,10 +5,11 @@ ghost use Rattle.jiff.specs.Words.{epoch_day};
 ghost use Rattle.std.specs.Char.{is_ascii_digit};
 ghost use Rattle.std.specs.Cmp.{int_cmp_total, on_equiv, on_total, int_eq_equiv, partial_equiv_from_equiv, partial_order_from_total};
 ghost use Rattle.std.specs.List.{list_all};
-ghost use Rattle.std.specs.Prelude.{◌≡◌, ◌+◌, ◌<◌, length, slice_index, IsTrue, Some, refl};
+ghost use Rattle.std.specs.Prelude.{◌≡◌, ◌≢◌, ◌+◌, ◌<◌, ℕ, List, length, slice_index, true, IfSome, IsNone, IsTrue, Some, refl};
 
 use crate::error::NotADay;
 use jiff::civil::{self, Date};
+use jiff_core::civil as plain;
 use std::cmp::Ordering;
 use std::marker::Model;
 
@@ -56,6 +57,29 @@ impl Day {
             return Err(NotADay);
         }
         Ok(Day { year, month, day })
+    }
+
+    /// The day so many days after 1970-01-01, or before it for fewer than 0. `None` where that is not
+    /// from 1900-01-01 to 2999-12-31.
+    pub fn of_number(number: i64) -> Option<Day>
+        ensures day { IfSome result (λ day. spec.number_of day ≡ number) }
+        ensures valid { IfSome result (λ day. IsTrue (spec.is_day day)) }
+        ensures none { IsNone result → (text : List ℕ) → spec.is_day text ≡ true → spec.number_of text ≢ number }
+    {
+        let Ok(date) = plain::Date::from_unix_epoch_day(number) else {
+            return None;
+        };
+        let Ok(year) = u16::try_from(date.year) else {
+            return None;
+        };
+        if !is_civil(year, date.month, date.day) {
+            return None;
+        }
+        Some(Day {
+            year,
+            month: date.month,
+            day: date.day,
+        })
     }
 
     /// The date, as the calendar has it.

@@ -16,8 +16,16 @@ fn days_of_the_calendar_are_read(rt: HostRuntime) -> Result<(), Fail> {
         let day = Day::parse(text).ok().ok_or("no day")?;
         assert_eq!(rt; day.number(), number);
         assert_eq!(rt; day.text().as_slice(), text.as_slice());
+        assert_eq!(rt; Day::of_number(number), Some(day));
     }
     Ok(())
+}
+
+#[test]
+fn numbers_of_no_day_are_refused(rt: HostRuntime) {
+    for number in [i64::MIN, -4_371_588, -25_568, 376_200, 2_932_897, i64::MAX] {
+        assert!(rt; Day::of_number(number).is_none(), "{number}");
+    }
 }
 
 #[test]

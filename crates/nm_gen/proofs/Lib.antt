@@ -1,0 +1,4 @@
+pub mod CountedDays
+pub mod Names
+pub mod Parts
+mod Examples
