@@ -11,7 +11,7 @@ use Rattle.nm_terms.specs.Due.{OrWant}
 use Rattle.nm_stage.specs.Live.{holds}
 use Rattle.nm_version.specs.After.{IsReached, accepted, after, commit_of, or_before, result_of}
 use Rattle.nm_version.specs.Changed.{live_after}
-use Rattle.nm_version.specs.Command.{IsSpelt, document_size, entry_of}
+use Rattle.nm_version.specs.Command.{HasLine, IsSpelt, document_size, entry_of}
 use Rattle.nm_version.specs.Kept.{Kept, number_of, opened, size_of}
 use Rattle.nm_version.specs.Limits.{largest_store, most_commits}
 use Rattle.nm_version.specs.Refusal.{bytes_refusal, commits_refusal, early_refusal, is_in_use, kind_refusal, refusal_of, refused_where, steps_refusal, superseding_refusal, unknown_refusal, use_refusal, wants_memory}
@@ -112,41 +112,43 @@ open_reached kept e spelt = record {
   base = spelt;
   commands = [];
   spelt = tt;
+  lines = tt;
   logged = ap (λ (k : Kept). k.log) (sym e);
   reached = sym e;
 }
 
 module _ (kept : Kept) (command : Command) where
-  accepted_reached : IsReached kept → IsSpelt command → commit_of kept command ≡ Ok (accepted kept command) → IsReached (accepted kept command)
-  accepted_reached r spelt e = record {
+  accepted_reached : IsReached kept → IsSpelt command → HasLine command → commit_of kept command ≡ Ok (accepted kept command) → IsReached (accepted kept command)
+  accepted_reached r spelt line e = record {
     base = r.base;
     commands = r.commands ++ command ∷ [];
     spelt = all_append IsSpelt r.commands (command ∷ []) r.spelt (spelt, tt);
+    lines = all_append HasLine r.commands (command ∷ []) r.lines (line, tt);
     logged = map-append entry_of r.commands (command ∷ []) ∙ ap (λ entries. entries ++ entry_of command ∷ []) r.logged;
     reached = fold-append after (opened kept.base kept.bytes) r.commands (command ∷ [])
         ∙ ap (λ k. after k command) r.reached
         ∙ ap (or_before kept) e;
   }
 
-  size_more : size_of (accepted kept command) ≡ size_of kept + document_size (entry_of command)
+  pub size_more : size_of (accepted kept command) ≡ size_of kept + document_size (entry_of command)
   size_more =
       omega (arith, sum_by-append document_size kept.log (entry_of command ∷ []), one_more (sum_by document_size kept.log) (document_size (entry_of command)))
     where
       one_more : (m n : ℕ) → m + (n + 0) ≡ m + n
       one_more m n = omega arith
 
-fits_with : (kept : Kept) (command : Command) → bytes_refusal kept command ≡ None → size_of kept ≤ largest_store → size_of kept + document_size (entry_of command) ≤ largest_store
+pub fits_with : (kept : Kept) (command : Command) → bytes_refusal kept command ≡ None → size_of kept ≤ largest_store → size_of kept + document_size (entry_of command) ≤ largest_store
 fits_with kept (File day model bytes) e h = at_most largest_store (size_of kept + length bytes) (not_refused _ _ e)
 fits_with kept (Revise id model bytes) e h = at_most largest_store (size_of kept + length bytes) (not_refused _ _ e)
 fits_with kept (Redate id day) e h = omega arith
 fits_with kept (Withdraw id) e h = omega arith
 
-pub within_after : (kept : Kept) (command : Command) (size : ℕ) → IsWithin kept size → IsSpelt command → early_refusal kept command ≡ None → commit_of kept command ≡ Ok (accepted kept command)
+pub within_after : (kept : Kept) (command : Command) (size : ℕ) → IsWithin kept size → IsSpelt command → HasLine command → early_refusal kept command ≡ None → commit_of kept command ≡ Ok (accepted kept command)
     → IsWithin (accepted kept command) (size + document_size (entry_of command))
-within_after kept command size w spelt early e =
+within_after kept command size w spelt line early e =
     let a = allowed kept command early in
     record {
-      reached = accepted_reached kept command w.reached spelt e;
+      reached = accepted_reached kept command w.reached spelt line e;
       numbered = omega (arith, length-append kept.log (entry_of command ∷ []), few_commits kept a.commits);
       sized = omega (arith, size_more kept command, w.sized);
       fits = omega (arith, fits_with kept command a.bytes (omega (arith, w.sized, w.fits)), w.sized);

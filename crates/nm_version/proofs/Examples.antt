@@ -14,6 +14,7 @@ use Rattle.nm_version.specs.Kept.{Kept, number_of, opened, size_of}
 use Rattle.nm_version.specs.Projects.{rows_of}
 use Rattle.nm_version.specs.Refusal.{early_refusal, refusal_of}
 use Rattle.nm_version.specs.Replay.{first_break, statement_causes, statements_at}
+use Rattle.nm_version.specs.Withdrawal.{others_than}
 use Rattle.nm_version.specs.declared.command.Command.{Command}
 use Rattle.nm_version.specs.declared.command.Command.TheVariants.{File, Revise, Redate, Withdraw}
 use Rattle.nm_version.specs.declared.command.Entry.TheVariants as entry
@@ -225,3 +226,7 @@ numbers_go_on = refl
 filed_again : map (λ (one : PlainProject). one.filing) (after withdrawn first).live ≡ 3 ∷ []
 unfolding refusal_of early_refusal first_break days_on_literals
 filed_again = refl
+
+-- what is left where a project had never been filed
+without_its_commands : others_than 6 (Redate 6 (codes "2024-01-01") ∷ Withdraw 7 ∷ Withdraw 6 ∷ []) ≡ Withdraw 7 ∷ []
+without_its_commands = refl

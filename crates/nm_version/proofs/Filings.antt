@@ -9,7 +9,7 @@ use Rattle.nm_model.specs.declared.document.Document.{Document}
 use Rattle.nm_model.specs.declared.document.Document.TheVariants as document
 use Rattle.nm_stage.specs.Live.{filing_cmp, project_of, with_project}
 use Rattle.nm_stage.specs.Project.{PlainProject, id_of}
-use Rattle.nm_version.specs.After.{accepted, after, after_all, or_before, result_of}
+use Rattle.nm_version.specs.After.{IsReached, accepted, after, after_all, or_before, result_of}
 use Rattle.nm_version.specs.Changed.{live_after, live_redated, live_revised, live_withdrawn, project_filed}
 use Rattle.nm_version.specs.Command.{entry_of}
 use Rattle.nm_version.specs.Kept.{Kept, number_of, opened}
@@ -20,7 +20,7 @@ use Rattle.nm_version.specs.declared.command.Command.TheVariants.{File, Revise, 
 use Rattle.nm_version.specs.declared.refusal.Refusal.{Refusal}
 
 module _ (P : PlainProject → Type 0) where
-  all_replaced : (project : PlainProject) (live : List PlainProject) → AllByRecursion P live → P project → AllByRecursion P (with_project project live)
+  pub all_replaced : (project : PlainProject) (live : List PlainProject) → AllByRecursion P live → P project → AllByRecursion P (with_project project live)
   all_replaced project [] a p = (p, tt)
   all_replaced project (x ∷ xs) a p = by (all_replaced project xs a.1 p) (filing_cmp project x)
     where
@@ -29,7 +29,7 @@ module _ (P : PlainProject → Type 0) where
       by h Equal = (p, a.1)
       by h Greater = (a.0, h)
 
-  all_filtered : (test : PlainProject → Bool) (live : List PlainProject) → AllByRecursion P live → AllByRecursion P (filter test live)
+  pub all_filtered : (test : PlainProject → Bool) (live : List PlainProject) → AllByRecursion P live → AllByRecursion P (filter test live)
   all_filtered test [] a = tt
   all_filtered test (x ∷ xs) a = by (all_filtered test xs a.1) (test x)
     where
@@ -37,7 +37,7 @@ module _ (P : PlainProject → Type 0) where
       by h true = (a.0, h)
       by h false = h
 
-  of_found : (test : PlainProject → Bool) (live : List PlainProject) (project : PlainProject) → AllByRecursion P live → find test live ≡ Some project → P project
+  pub of_found : (test : PlainProject → Bool) (live : List PlainProject) (project : PlainProject) → AllByRecursion P live → find test live ≡ Some project → P project
   of_found test [] project a e = absurd (let wrong = e in cc)
   of_found test (x ∷ xs) project a e = by (of_found test xs project a.1) (test x) e
     where
@@ -46,13 +46,13 @@ module _ (P : PlainProject → Type 0) where
       by h false f = h f
 
 -- a project of a new number stands behind all others
-last_of_all : (project : PlainProject) (live : List PlainProject) → AllByRecursion (λ one. one.filing < project.filing) live → with_project project live ≡ live ++ project ∷ []
+pub last_of_all : (project : PlainProject) (live : List PlainProject) → AllByRecursion (λ one. one.filing < project.filing) live → with_project project live ≡ live ++ project ∷ []
 last_of_all project [] a = refl
 last_of_all project (x ∷ xs) a =
     (λ i. match_ordering (sym (nat_cmp_is project.filing x.filing Greater a.0) i) (project ∷ x ∷ xs) (project ∷ xs) (x ∷ with_project project xs))
     ∙ ap (λ l. x ∷ l) (last_of_all project xs a.1)
 
-abbrev UpTo : ℕ → List PlainProject → Type 0
+abbrev pub UpTo : ℕ → List PlainProject → Type 0
 UpTo number live = AllByRecursion (λ one. one.filing ≤ number) live
 
 module _ (number : ℕ) (live : List PlainProject) (a : UpTo number live) where
@@ -78,7 +78,7 @@ module _ (number : ℕ) (live : List PlainProject) (a : UpTo number live) where
   withdrawn None = more
   withdrawn (Some project) = all_filtered (λ one. one.filing ≤ number + 1) _ live more
 
-changed : (kept : Kept) (command : Command) → UpTo (number_of kept) kept.live → UpTo (number_of kept + 1) (live_after kept command)
+pub changed : (kept : Kept) (command : Command) → UpTo (number_of kept) kept.live → UpTo (number_of kept + 1) (live_after kept command)
 changed kept (File day (document.Full full) bytes) a = more (number_of kept) kept.live a
 changed kept (File day (document.Difference difference) bytes) a =
     all_replaced (λ one. one.filing ≤ number_of kept + 1) (project_filed (number_of kept + 1) day difference) kept.live (more (number_of kept) kept.live a) (omega arith)
@@ -103,8 +103,11 @@ after_them : (kept : Kept) (commands : List Command) → AreNumbers kept → Are
 after_them kept [] a = a
 after_them kept (command ∷ commands) a = after_them (after kept command) commands (after_one kept command a)
 
+-- of what has been reached
+pub are_numbers : (kept : Kept) → IsReached kept → AllByRecursion (λ one. one.filing ≤ number_of kept) kept.live
+are_numbers kept r = subst AreNumbers r.reached (after_them (opened kept.base kept.bytes) r.commands tt)
+
 pub filed_projects_come_last : FiledProjectsComeLast
 filed_projects_come_last kept day difference bytes r =
-    let numbers : AreNumbers kept = subst AreNumbers r.reached (after_them (opened kept.base kept.bytes) r.commands tt) in
     last_of_all (project_filed (number_of kept + 1) day difference) kept.live
-    (all_weaker (λ one. one.filing ≤ number_of kept) (λ one. one.filing < number_of kept + 1) (λ one h. omega arith) kept.live numbers)
+    (all_weaker (λ one. one.filing ≤ number_of kept) (λ one. one.filing < number_of kept + 1) (λ one h. omega arith) kept.live (are_numbers kept r))

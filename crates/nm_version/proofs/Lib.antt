@@ -3,4 +3,11 @@ pub mod Commits
 pub mod Logs
 pub mod Filings
 pub mod Lists
+pub mod Subjects
+pub mod Lines
+pub mod Unnumbered
 mod Examples
+mod ExamplesOfTimelines
+pub mod Reached
+pub mod Beside
+pub mod Withdrawals

@@ -4,7 +4,7 @@ use Rattle.std.specs.List.{AllByRecursion, fold}
 use Rattle.nm_model.specs.declared.document.Document.TheVariants as document
 use Rattle.nm_reader.specs.Input.{IsDocumentOf}
 use Rattle.nm_version.specs.Changed.{live_after}
-use Rattle.nm_version.specs.Command.{IsSpelt, entry_of}
+use Rattle.nm_version.specs.Command.{HasLine, IsSpelt, entry_of}
 use Rattle.nm_version.specs.Kept.{Kept, opened}
 use Rattle.nm_version.specs.Refusal.{refusal_of}
 use Rattle.nm_version.specs.declared.command.Command.{Command}
@@ -33,10 +33,11 @@ after kept command = or_before kept (commit_of kept command)
 abbrev pub after_all : Kept → List Command → Kept
 after_all kept commands = fold after kept commands
 
--- the base and all commands are spelt by their bytes, none was refused, and they give what is kept
+-- the base and all commands are spelt by their bytes and have lines, none was refused, and they give what is kept
 pub record IsReached (kept : Kept) : Type 0 where
   pub base : IsDocumentOf kept.bytes (document.Full kept.base)
   pub commands : List Command
   pub spelt : AllByRecursion IsSpelt commands
+  pub lines : AllByRecursion HasLine commands
   pub logged : map entry_of commands ≡ kept.log
   pub reached : after_all (opened kept.base kept.bytes) commands ≡ kept

@@ -1,5 +1,6 @@
 -- What commands bring, and what the log keeps of them.
-use Rattle.std.specs.Prelude.{ℕ, length, Option, None, Some}
+use Rattle.std.specs.Prelude.{ℕ, ◌^◌, ◌<◌, length, Option, None, Some, IsTrue}
+use Rattle.nm_day.specs.Day.{is_day}
 use Rattle.nm_model.specs.declared.document.Document.{Document}
 use Rattle.nm_model.specs.declared.document.Document.TheVariants as document
 use Rattle.nm_model.specs.declared.header.Header.{Header}
@@ -15,6 +16,13 @@ IsSpelt (File day model bytes) = IsDocumentOf bytes model
 IsSpelt (Revise project model bytes) = IsDocumentOf bytes model
 IsSpelt (Redate project day) = Unit {0}
 IsSpelt (Withdraw project) = Unit {0}
+
+-- a line can say the command: its day is one, and the project that it names has the number of a UUID
+abbrev pub HasLine : Command → Type 0
+HasLine (File day model bytes) = IsTrue (is_day day)
+HasLine (Revise project model bytes) = project < 2 ^ 128
+HasLine (Redate project day) = (project < 2 ^ 128) × IsTrue (is_day day)
+HasLine (Withdraw project) = project < 2 ^ 128
 
 -- the project that a command names
 abbrev pub project_named : Command → Option ℕ

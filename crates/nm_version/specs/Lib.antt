@@ -13,3 +13,5 @@ pub mod Assembly
 pub mod Projects
 pub mod Listing
 pub mod Objects
+pub mod Timeline
+pub mod Withdrawal

@@ -36,14 +36,6 @@ impl Version {
         })
     }
 
-    /// The statements of a day.
-    pub(crate) fn statements(&self, alloc: Global, day: Day) -> Result<Set, NoMemory>
-        ensures { IfOk result (λ set. set ≡ replay.statements_at self.now.base self.now.live day) }
-    {
-        let steps = self.in_service(alloc, day)?;
-        statements_after(alloc, &self.base().statements, &steps)
-    }
-
     /// The steps whose day is at most this one, in order.
     fn in_service(&self, alloc: Global, day: Day) -> Result<Vec<Step>, NoMemory>
         ensures { IfOk result (λ steps. steps.items ≡ map step_of (replay.in_service self.now.live day)) }

@@ -1,5 +1,5 @@
 // Commands, and what the log keeps of them.
-ghost use Rattle.nm_version.specs.Command.{document_brought, document_size, entry_of, project_named};
+ghost use Rattle.nm_version.specs.Command.{HasLine, document_brought, document_size, entry_of, project_named};
 ghost use Rattle.std.specs.Option.{option_map};
 ghost use Rattle.std.specs.Prelude.{◌≡◌};
 
@@ -62,6 +62,27 @@ impl Command {
         match self {
             Command::File { document, .. } | Command::Revise { document, .. } => Some(document),
             Command::Redate { .. } | Command::Withdraw { .. } => None,
+        }
+    }
+
+    /// A line can say it: its day is one, and its project is a number of 128 bits.
+    pub(crate) fn has_line(&self)
+        ensures { HasLine self.now }
+    {
+        match self {
+            Command::File { day, .. } => {
+                let _day = day.text();
+            }
+            Command::Revise { project, .. } => {
+                let _project = *project;
+            }
+            Command::Redate { project, day } => {
+                let _project = *project;
+                let _day = day.text();
+            }
+            Command::Withdraw { project } => {
+                let _project = *project;
+            }
         }
     }
 

@@ -5,11 +5,13 @@
 //! are in service by then, in the order of day and filing.
 #![tactic(auto)]
 
+mod about;
 mod assembly;
 mod command;
 mod edits;
 mod laws;
 mod limits;
+mod line;
 mod listing;
 mod log;
 mod object;
@@ -17,14 +19,14 @@ mod refusal;
 mod replay;
 mod row;
 mod rules;
+mod threads;
+mod timeline;
 mod version;
 
 pub use command::{Command, Entry};
-pub use laws::filed_projects_come_last;
+pub use laws::{filed_projects_come_last, filing_numbers_stay_inside, withdrawals_take_away};
 pub use limits::{LARGEST_STORE, MOST_COMMITS, MOST_STEPS};
+pub use line::Line;
 pub use refusal::{Cause, Refusal};
 pub use row::Row;
 pub use version::Version;
-
-#[cfg(test)]
-mod tests;

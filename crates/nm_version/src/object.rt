@@ -1,43 +1,74 @@
-// What is said of one subject.
+// What is said of one subject on a day.
+ghost use Rattle.nm_statement.specs.Set.{IsRising};
 ghost use Rattle.nm_version.specs.Objects as spec;
+ghost use Rattle.nm_version.specs.Replay.{after_changes, is_in_service, set_after};
 ghost use Rattle.std.specs.List.{filter};
-ghost use Rattle.std.specs.Prelude.{◌≡◌, IfOk};
+ghost use Rattle.std.specs.Prelude.{◌≡◌, IfOk, map};
 
+use crate::about::about;
 use crate::version::Version;
 use nm_base::NoMemory;
 use nm_day::Day;
-use nm_ident::{Ident, idents_are_ordered};
-use nm_statement::{Set, Statement, members_make_sets};
+use nm_ident::Ident;
+use nm_stage::Project;
+use nm_statement::{Change, Set, Statement, members_make_sets};
 use std::alloc::Global;
 
 impl Version {
     /// The statements of a day with this subject.
+    ///
+    /// The projects in service are replayed on this subject alone: its statements are found by a
+    /// search in the base and in each change.
     pub fn object(&self, alloc: Global, day: Day, subject: &Ident) -> Result<Set, NoMemory>
         ensures { IfOk result (λ set. set ≡ spec.object_at self.now.base self.now.live day subject.now) }
     {
-        let statements = self.statements(alloc, day)?;
-        about(alloc, &statements, subject)
+        let projects = self.live_projects().in_order(alloc)?;
+        statements_after(alloc, &self.base().statements, &projects, day, subject)
     }
 }
 
-/// The statements of the set with this subject.
-fn about(alloc: Global, statements: &Set, subject: &Ident) -> Result<Set, NoMemory>
-    ensures { IfOk result (λ set. set ≡ filter (spec.is_about subject.now) statements.now) }
+/// What the projects in service make of the base, of this subject alone.
+fn statements_after(
+    alloc: Global,
+    base: &Set,
+    projects: &[&Project],
+    day: Day,
+    subject: &Ident,
+) -> Result<Set, NoMemory>
+    ensures { IfOk result (λ set. set ≡ filter (spec.is_about subject.now) (after_changes base.now (map (λ step. step.change) (filter (is_in_service day) (map (λ one. one.now) projects.now))))) }
 {
-    let all = statements.as_slice();
-    let mut found = Vec::new(alloc);
-    for statement in all {
-        if is_about(statement, subject) {
-            found.push(statement.copy(alloc)?)?;
+    let mut set = copied(alloc, about(base, subject))?;
+    for project in projects {
+        if project.day <= day {
+            set = changed(alloc, set, &project.change, subject)?;
         }
     }
-    members_make_sets();
-    Set::of_list(alloc, found)
+    Ok(set)
 }
 
-fn is_about(statement: &Statement, subject: &Ident) -> bool
-    ensures { result ≡ spec.is_about subject.now statement.now }
+/// The statements after a change of which those of the subject alone are looked at.
+fn changed(alloc: Global, set: Set, change: &Change, subject: &Ident) -> Result<Set, NoMemory>
+    ensures { IfOk result (λ after. after ≡ set_after set (spec.change_about subject.now change.now)) }
 {
-    idents_are_ordered();
-    statement.subject == *subject
+    let reverse = about(&change.rev, subject);
+    let forward = about(&change.fwd, subject);
+    if reverse.is_empty() && forward.is_empty() {
+        let _statements = set.as_slice();
+        return Ok(set);
+    }
+    set.minus(alloc, &copied(alloc, reverse)?)?
+        .union(alloc, &copied(alloc, forward)?)
+}
+
+/// The set of these statements in memory of its own.
+fn copied(alloc: Global, statements: &[Statement]) -> Result<Set, NoMemory>
+    requires { IsRising statements.now }
+    ensures { IfOk result (λ set. set ≡ statements.now) }
+{
+    let mut copies = Vec::with_capacity(alloc, statements.len())?;
+    for statement in statements {
+        copies.push(statement.copy(alloc)?)?;
+    }
+    members_make_sets();
+    Set::of_list(alloc, copies)
 }

@@ -122,6 +122,7 @@ impl Version {
         if let Some(refusal) = self.early_refusal(&command) {
             return Err(refusal);
         }
+        command.has_line();
         let size = self.size + command.document_size();
         let (live, entry) = self.changed(alloc, command)?;
         if let Some(refusal) = first_break(alloc, &self.base, &live)? {

@@ -40,5 +40,5 @@ returns c = accepts_it c ∙ ap Ok (sym (made c))
 pub invariant_of-result-2 : goal.invariant_of-result-2
 invariant_of-result-2 c =
     let within = subst (λ (k : Kept). IsWithin k c.self.inside.size) c.self.view_is c.self.invariant in
-    let after = within_after c.args.self.now c.args.command c.self.inside.size within c.requires (sym c.in_default.ensures) (accepts_it c) in
+    let after = within_after c.args.self.now c.args.command c.self.inside.size within c.requires c.has_line.ensures (sym c.in_default.ensures) (accepts_it c) in
     subst (λ (k : Kept). IsWithin k (c.self.inside.size + c.document_size.result)) (sym (made c)) (subst (λ n. IsWithin (accepted c.args.self.now c.args.command) (c.self.inside.size + n)) (sym c.document_size.ensures) after)
