@@ -19,7 +19,7 @@ fn main(rt: HostRuntime) -> ExitCode {
     };
     if status == Status::Usage {
         // The status tells it too, so that a standard error that takes nothing changes no more.
-        let _ = eprintln!(rt; "usage: nm session | canon | check");
+        let _ = eprintln!(rt; "usage: nm session | canon | check | gen N SEED");
     }
     ExitCode::from(status.code())
 }

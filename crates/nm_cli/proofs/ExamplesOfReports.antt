@@ -16,10 +16,11 @@ use Rattle.nm_reader.specs.declared.error.ReadError.TheVariants as read_error
 use Rattle.nm_reader.specs.declared.fault.Code.TheVariants as code
 use Rattle.nm_statement.specs.declared.object.Object.TheVariants.{Literal}
 use Rattle.nm_statement.specs.declared.statement.Statement.{Statement}
-use Rattle.nm_cli.specs.Forms.{outcome_by}
+use Rattle.nm_cli.specs.CommandLine.{form_of}
+use Rattle.nm_cli.specs.Forms.{due_by}
 use Rattle.nm_cli.specs.Report.{counts_line, reported}
 use Rattle.nm_cli.specs.Reported.{IsReadThrough}
-use Rattle.nm_cli.specs.declared.form.Form.TheVariants.{Check}
+use Rattle.nm_cli.specs.declared.form.Form.TheVariants.{Session, Check}
 use Rattle.nm_cli.specs.declared.report.Report.TheVariants.{Canonical}
 
 abbrev header : Header
@@ -59,10 +60,20 @@ unfolding digits
 faulty = refl
 
 -- no bytes are a document that ends before it begins
-nothing : outcome_by Check [] ≡ record { replies = codes "fault 0 cut" ++ 10 ∷ []; ending = Refused }
+nothing : due_by Check [] ≡ record { replies = codes "fault 0 cut" ++ 10 ∷ []; ending = Refused }
 unfolding digits read_due cut_within code_at piece_at inner_piece_at run_of
 nothing = refl
 
 -- two bytes were all that was left
 read_to_the_end : IsReadThrough (Some (60 ∷ 97 ∷ [])) (Some [])
 read_to_the_end = record { taken = 60 ∷ 97 ∷ []; consumed = refl; through = inl refl }
+
+-- a form is one word
+one_word : form_of (codes "session" ∷ []) ≡ Some Session
+one_word = refl
+
+another_word : form_of (codes "check" ∷ []) ≡ Some Check
+another_word = refl
+
+two_words : form_of (codes "session" ∷ [] ∷ []) ≡ None
+two_words = refl

@@ -1,11 +1,3 @@
-pub mod Numerals
-pub mod Turns
-pub mod ExamplesOfReplies
 pub mod ExamplesOfReports
-pub mod LineFeeds
-pub mod Gives
-pub mod Commands
-pub mod Answered
-pub mod Sessions
-pub mod StreamExamples
 pub mod Reports
+pub mod Forms

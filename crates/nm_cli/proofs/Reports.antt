@@ -1,5 +1,5 @@
 -- Lemmas on reports: what was read of an input tells of all of it, and how a report ends.
-use Rattle.std.proofs.Common.{◌≡◌, ℕ, ◌<◌, List, ◌++◌, Option, None, Some, IfSome, Ok, Err, cond, length, take, true, false, refl, sym, ap, ◌∙◌, subst, arith, inl, inr, ◌⊎◌, append-nil}
+use Rattle.std.proofs.Common.{◌≡◌, ℕ, ◌<◌, List, ◌++◌, Option, None, Some, IfSome, Result, Ok, Err, cond, length, take, true, false, refl, sym, ap, ◌∙◌, subst, arith, inl, inr, ◌⊎◌, append-nil}
 use Rattle.std.proofs.lemmas.Bool.{lt-leb}
 use Rattle.std.proofs.lemmas.List.{length-append, take-append-le}
 use Rattle.std.specs.Io.KnownBytes.{Consumes, IsAtEnd}
@@ -12,17 +12,17 @@ use Rattle.nm_reader.specs.Fault.{fault_of}
 use Rattle.nm_reader.specs.Input.{cut, cutting_of}
 use Rattle.nm_reader.specs.Model.{document_of}
 use Rattle.nm_reader.specs.Read.{read_due, read_of}
+use Rattle.nm_model.specs.declared.document.Document.{Document}
+use Rattle.nm_reader.specs.declared.error.ReadError.{ReadError}
 use Rattle.nm_reader.specs.declared.error.ReadError.TheVariants as read_error
-use Rattle.nm_cli.specs.Answered.{Answers, AppendsPrefix, EndsAs, EndsUnlessFaults, is_ending}
-use Rattle.nm_cli.specs.Body.{Body, body_of}
+use Rattle.nm_session.specs.Answered.{Due, Answers, AppendsPrefix, EndsAs, EndsUnlessFaults, is_ending}
 use Rattle.nm_cli.specs.Report.{reported}
-use Rattle.nm_cli.specs.Reported.{ReportHasCause, WriteStops}
-use Rattle.nm_cli.specs.Stops.{status_of}
-use Rattle.nm_cli.specs.Stream.{Outcome}
+use Rattle.nm_cli.specs.Reported.{ReportHasCause, WriteFails}
+use Rattle.nm_cli.specs.Failures.{status_of}
 use Rattle.nm_cli.specs.declared.report.Report.{Report}
-use Rattle.nm_cli.specs.declared.stop.Stop.{Stop}
-use Rattle.nm_cli.specs.declared.stop.Stop.TheVariants as stops
-use Rattle.nm_cli.proofs.Answered.{answers_part, answers_whole}
+use Rattle.nm_cli.specs.declared.failure.Failure.{Failure}
+use Rattle.nm_cli.specs.declared.failure.Failure.TheVariants as failures
+use Rattle.nm_session.proofs.Answered.{answers_part, answers_whole}
 
 -- ---- the whole input
 
@@ -41,7 +41,7 @@ due_longer bytes rest long =
 
 -- what was read through is what the whole input is
 body_read : (input : List ℕ) (after : Option (List ℕ)) (bytes : List ℕ) → Consumes (Some input) after bytes → IsAtEnd after ⊎ (longest_document < length bytes)
-    → body_of bytes ≡ body_of input
+    → read_due bytes ≡ read_due input
 body_read input None bytes taken through = absurd taken
 body_read input (Some rest) bytes taken (inl end) = sym (ap read_due (taken ∙ ap (λ l. bytes ++ l) end ∙ append-nil bytes))
 body_read input (Some rest) bytes taken (inr long) = sym (ap read_due taken ∙ due_longer bytes rest long)
@@ -50,43 +50,40 @@ body_read input (Some rest) bytes taken (inr long) = sym (ap read_due taken ∙ 
 
 -- the report was written whole
 pub whole_report : (left after : Option (List ℕ)) (bytes seen : List ℕ) (report : Report) (status : Status) (written now : Option (List ℕ)) → seen ≡ bytes
-    → Consumes left after bytes → IsAtEnd after ⊎ (longest_document < length bytes) → EndsAs (reported report (body_of seen)) status written now
-    → IfSome left (λ input. Answers (reported report (body_of input)) status written now)
+    → Consumes left after bytes → IsAtEnd after ⊎ (longest_document < length bytes) → EndsAs (reported report (read_due seen)) status written now
+    → IfSome left (λ input. Answers (reported report (read_due input)) status written now)
 whole_report None after bytes seen report status written now same taken through ends = tt
 whole_report (Some input) after bytes seen report status written now same taken through ends =
-    subst (λ (body : Body). Answers (reported report body) status written now) (ap read_due same ∙ body_read input after bytes taken through)
-    (answers_whole (reported report (body_of seen)) status written now ends)
+    subst (λ (body : Result Document ReadError). Answers (reported report body) status written now) (ap read_due same ∙ body_read input after bytes taken through)
+    (answers_whole (reported report (read_due seen)) status written now ends)
 
--- what stops a writer does not tell of the input
-tells_nothing : (stop : Stop) (before after : ℕ) → WriteStops stop before after → is_ending (status_of stop) ≡ false
-tells_nothing stops.WriteFault before after why = refl
-tells_nothing stops.NoMemory before after why = refl
-tells_nothing stops.ReadFault before after why = absurd why
-tells_nothing (stops.BadLine at) before after why = absurd why
-tells_nothing stops.Cut before after why = absurd why
-tells_nothing stops.TooMuch before after why = absurd why
+-- what fails a writer does not tell of the input
+tells_nothing : (failure : Failure) (before after : ℕ) → WriteFails failure before after → is_ending (status_of failure) ≡ false
+tells_nothing failures.WriteFault before after why = refl
+tells_nothing failures.NoMemory before after why = refl
+tells_nothing failures.ReadFault before after why = absurd why
 
 -- some of the first of the report was written
-pub part_report : (left after : Option (List ℕ)) (bytes seen : List ℕ) (report : Report) (stop : Stop) (status : Status) (written now : Option (List ℕ)) (write_before write_after : ℕ)
-    → seen ≡ bytes → status ≡ status_of stop → Consumes left after bytes → IsAtEnd after ⊎ (longest_document < length bytes)
-    → AppendsPrefix written now (reported report (body_of seen)).replies → WriteStops stop write_before write_after
-    → IfSome left (λ input. Answers (reported report (body_of input)) status written now)
-part_report None after bytes seen report stop status written now b a same as_stopped taken through front why = tt
-part_report (Some input) after bytes seen report stop status written now b a same as_stopped taken through front why =
-    subst (λ (body : Body). Answers (reported report body) status written now) (ap read_due same ∙ body_read input after bytes taken through)
-    (answers_part (reported report (body_of seen)) status written now (ap is_ending as_stopped ∙ tells_nothing stop b a why) front)
+pub part_report : (left after : Option (List ℕ)) (bytes seen : List ℕ) (report : Report) (failure : Failure) (status : Status) (written now : Option (List ℕ)) (write_before write_after : ℕ)
+    → seen ≡ bytes → status ≡ status_of failure → Consumes left after bytes → IsAtEnd after ⊎ (longest_document < length bytes)
+    → AppendsPrefix written now (reported report (read_due seen)).replies → WriteFails failure write_before write_after
+    → IfSome left (λ input. Answers (reported report (read_due input)) status written now)
+part_report None after bytes seen report failure status written now b a same as_stopped taken through front why = tt
+part_report (Some input) after bytes seen report failure status written now b a same as_stopped taken through front why =
+    subst (λ (body : Result Document ReadError). Answers (reported report body) status written now) (ap read_due same ∙ body_read input after bytes taken through)
+    (answers_part (reported report (read_due seen)) status written now (ap is_ending as_stopped ∙ tells_nothing failure b a why) front)
 
 -- ---- completeness
 
 -- what a report is due is an ending that it can have
-ending_cause : (report : Report) (body : Body) (status : Status) (read_before read_after write_before write_after : ℕ) → status ≡ (reported report body).ending
+ending_cause : (report : Report) (body : Result Document ReadError) (status : Status) (read_before read_after write_before write_after : ℕ) → status ≡ (reported report body).ending
     → ReportHasCause status read_before read_after write_before write_after
 ending_cause report (Ok model) status a b c d e = subst (λ (s : Status). ReportHasCause s a b c d) (sym e) tt
 ending_cause report (Err (read_error.Fault fault)) status a b c d e = subst (λ (s : Status). ReportHasCause s a b c d) (sym e) tt
 ending_cause report (Err read_error.NoMemory) status a b c d e = subst (λ (s : Status). ReportHasCause s a b c d) (sym e) tt
 
 -- without a fault that is told, what is due was written, or memory was wanting
-complete_by : (due : Outcome) (status : Status) (written now : Option (List ℕ)) (read_before read_after write_before write_after : ℕ)
+complete_by : (due : Due) (status : Status) (written now : Option (List ℕ)) (read_before read_after write_before write_after : ℕ)
     → ReportHasCause status read_before read_after write_before write_after → Answers due status written now
     → EndsUnlessFaults due status written now read_before read_after write_before write_after
 complete_by due ReadFault written now a b c d h answers no_read no_write = absurd (no_read h)
@@ -102,8 +99,8 @@ complete_by due DoorFault written now a b c d h answers no_read no_write = absur
 
 -- the same of the report on an input
 pub is_complete : (left : Option (List ℕ)) (report : Report) (seen : List ℕ) (status : Status) (written now : Option (List ℕ)) (read_before read_after write_before write_after : ℕ)
-    → EndsAs (reported report (body_of seen)) status written now → IfSome left (λ input. Answers (reported report (body_of input)) status written now)
-    → IfSome left (λ input. EndsUnlessFaults (reported report (body_of input)) status written now read_before read_after write_before write_after)
+    → EndsAs (reported report (read_due seen)) status written now → IfSome left (λ input. Answers (reported report (read_due input)) status written now)
+    → IfSome left (λ input. EndsUnlessFaults (reported report (read_due input)) status written now read_before read_after write_before write_after)
 is_complete None report seen status written now a b c d ends answers = tt
 is_complete (Some input) report seen status written now a b c d ends answers =
-    complete_by (reported report (body_of input)) status written now a b c d (ending_cause report (body_of seen) status a b c d ends.ending) answers
+    complete_by (reported report (read_due input)) status written now a b c d (ending_cause report (read_due seen) status a b c d ends.ending) answers

@@ -1,29 +1,52 @@
 -- What each form writes of its input, how it ends, and what it reads.
 use Rattle.std.specs.Prelude.{ℕ, List, Option}
+use Rattle.nm_base.specs.Faults.{IsRisen}
 use Rattle.nm_base.specs.declared.outcome.Status.{Status}
-use Rattle.nm_cli.specs.Answered.{HasCause}
-use Rattle.nm_cli.specs.Body.{body_of}
+use Rattle.nm_base.specs.declared.outcome.Status.TheVariants.{Done, Refused, Usage, ReadFault, WriteFault, NoMemory, BadSession, Cut, TooMuch, DoorFault}
+use Rattle.nm_reader.specs.Read.{read_due}
+use Rattle.nm_gen.specs.Stream.{stream_of}
+use Rattle.nm_session.specs.Answered.{Due, HasCause, Untouched, due_of}
 use Rattle.nm_cli.specs.Report.{reported}
 use Rattle.nm_cli.specs.Reported.{ReadsThrough, ReportHasCause}
-use Rattle.nm_cli.specs.Stream.{Outcome, outcome}
+use Rattle.nm_session.specs.Stream.{outcome}
 use Rattle.nm_cli.specs.declared.form.Form.{Form}
-use Rattle.nm_cli.specs.declared.form.Form.TheVariants.{Session, Canon, Check}
+use Rattle.nm_cli.specs.declared.form.Form.TheVariants.{Session, Canon, Check, Gen}
 use Rattle.nm_cli.specs.declared.report.Report.TheVariants.{Canonical, Counts}
 
+-- a generated session is written whatever the input is
+abbrev pub generated : ℕ → ℕ → Due
+generated projects seed = record { replies = stream_of projects seed; ending = Done }
+
 -- what is due of this input
-abbrev pub outcome_by : Form → List ℕ → Outcome
-outcome_by Session input = outcome input
-outcome_by Canon input = reported Canonical (body_of input)
-outcome_by Check input = reported Counts (body_of input)
+abbrev pub due_by : Form → List ℕ → Due
+due_by Session input = due_of (outcome input)
+due_by Canon input = reported Canonical (read_due input)
+due_by Check input = reported Counts (read_due input)
+due_by (Gen projects seed) input = generated projects seed
+
+-- a fault of the sink is told only where its count rose; what reads nothing tells of nothing else
+abbrev pub WriteHasCause : Status → ℕ → ℕ → Type 0
+WriteHasCause WriteFault before after = IsRisen before after
+WriteHasCause Done before after = Unit {0}
+WriteHasCause NoMemory before after = Unit {0}
+WriteHasCause ReadFault before after = ⊥
+WriteHasCause Refused before after = ⊥
+WriteHasCause Usage before after = ⊥
+WriteHasCause BadSession before after = ⊥
+WriteHasCause Cut before after = ⊥
+WriteHasCause TooMuch before after = ⊥
+WriteHasCause DoorFault before after = ⊥
 
 -- which statuses a form can have, and of which faults they tell
 abbrev pub FormHasCause : Form → Status → ℕ → ℕ → ℕ → ℕ → Type 0
 FormHasCause Session status read_before read_after write_before write_after = HasCause status read_before read_after write_before write_after
 FormHasCause Canon status read_before read_after write_before write_after = ReportHasCause status read_before read_after write_before write_after
 FormHasCause Check status read_before read_after write_before write_after = ReportHasCause status read_before read_after write_before write_after
+FormHasCause (Gen projects seed) status read_before read_after write_before write_after = WriteHasCause status write_before write_after
 
--- a session reads up to its end, and a report all of a document
-abbrev pub FormReads : Form → Status → Option (List ℕ) → Option (List ℕ) → Type 0
-FormReads Session status before after = Unit {0}
-FormReads Canon status before after = ReadsThrough status before after
-FormReads Check status before after = ReadsThrough status before after
+-- a session reads up to its end, a report all of a document, and what is generated rests on no input
+abbrev pub FormReads : Form → Status → Option (List ℕ) → Option (List ℕ) → ℕ → ℕ → Type 0
+FormReads Session status left now before after = Unit {0}
+FormReads Canon status left now before after = ReadsThrough status left now
+FormReads Check status left now before after = ReadsThrough status left now
+FormReads (Gen projects seed) status left now before after = Untouched left now before after

@@ -1,16 +1,16 @@
 -- What is written of a document.
-use Rattle.std.specs.Prelude.{ℕ, List, ◌++◌, length, Ok, Err, codes}
+use Rattle.std.specs.Prelude.{ℕ, List, [], ◌++◌, length, Result, Ok, Err, codes}
 use Rattle.std.specs.Fmt.{decimal}
 use Rattle.nm_base.specs.declared.outcome.Status.TheVariants.{Done, Refused, NoMemory}
 use Rattle.nm_ident.specs.UuidText.{uuid_text}
 use Rattle.nm_model.specs.declared.document.Document.{Document}
 use Rattle.nm_model.specs.declared.document.Document.TheVariants as document
+use Rattle.nm_reader.specs.declared.error.ReadError.{ReadError}
 use Rattle.nm_reader.specs.declared.error.ReadError.TheVariants as read_error
 use Rattle.nm_reader.specs.declared.fault.Fault.{Fault}
 use Rattle.nm_writer.specs.Canonical.{canonical_of}
-use Rattle.nm_cli.specs.Body.{Body}
-use Rattle.nm_cli.specs.Reply.{fault_line, reply_line}
-use Rattle.nm_cli.specs.Stream.{Outcome, short}
+use Rattle.nm_session.specs.Answered.{Due}
+use Rattle.nm_session.specs.Reply.{fault_line, reply_line}
 use Rattle.nm_cli.specs.declared.report.Report.{Report}
 use Rattle.nm_cli.specs.declared.report.Report.TheVariants.{Canonical, Counts}
 
@@ -31,8 +31,8 @@ abbrev pub report_of : Report → Document → List ℕ
 report_of Canonical model = canonical_of model
 report_of Counts model = counts_line model
 
--- the report on a model, or the fault of the bytes. No body is want of memory
-abbrev pub reported : Report → Body → Outcome
+-- the report on the model that bytes state, or their fault. Want of memory is what no bytes are
+abbrev pub reported : Report → Result Document ReadError → Due
 reported report (Ok model) = record { replies = report_of report model; ending = Done }
 reported report (Err (read_error.Fault fault)) = record { replies = fault_report fault; ending = Refused }
-reported report (Err read_error.NoMemory) = short NoMemory
+reported report (Err read_error.NoMemory) = record { replies = []; ending = NoMemory }

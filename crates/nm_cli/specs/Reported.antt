@@ -5,8 +5,8 @@ use Rattle.nm_base.specs.Faults.{IsRisen}
 use Rattle.nm_base.specs.declared.outcome.Status.{Status}
 use Rattle.nm_base.specs.declared.outcome.Status.TheVariants.{Done, Refused, Usage, ReadFault, WriteFault, NoMemory, BadSession, Cut, TooMuch, DoorFault}
 use Rattle.nm_model.specs.Limits.{longest_document}
-use Rattle.nm_cli.specs.declared.stop.Stop.{Stop}
-use Rattle.nm_cli.specs.declared.stop.Stop.TheVariants as stops
+use Rattle.nm_cli.specs.declared.failure.Failure.{Failure}
+use Rattle.nm_cli.specs.declared.failure.Failure.TheVariants as failures
 
 -- a fault is told only where the count of the source's faults, or of the sink's, rose; a report tells nothing
 -- of commands, of a command line or of a listener
@@ -33,19 +33,13 @@ abbrev pub ReadsThrough : Status → Option (List ℕ) → Option (List ℕ) →
 ReadsThrough status before after = (status ≡ ReadFault → ⊥) → (status ≡ NoMemory → ⊥) → IsReadThrough before after
 
 -- why an input was not read through
-abbrev pub ReadStops : Stop → ℕ → ℕ → Type 0
-ReadStops stops.ReadFault before after = IsRisen before after
-ReadStops stops.NoMemory before after = Unit {0}
-ReadStops stops.WriteFault before after = ⊥
-ReadStops (stops.BadLine at) before after = ⊥
-ReadStops stops.Cut before after = ⊥
-ReadStops stops.TooMuch before after = ⊥
+abbrev pub ReadFails : Failure → ℕ → ℕ → Type 0
+ReadFails failures.ReadFault before after = IsRisen before after
+ReadFails failures.NoMemory before after = Unit {0}
+ReadFails failures.WriteFault before after = ⊥
 
 -- why a text was not written whole
-abbrev pub WriteStops : Stop → ℕ → ℕ → Type 0
-WriteStops stops.WriteFault before after = IsRisen before after
-WriteStops stops.NoMemory before after = Unit {0}
-WriteStops stops.ReadFault before after = ⊥
-WriteStops (stops.BadLine at) before after = ⊥
-WriteStops stops.Cut before after = ⊥
-WriteStops stops.TooMuch before after = ⊥
+abbrev pub WriteFails : Failure → ℕ → ℕ → Type 0
+WriteFails failures.WriteFault before after = IsRisen before after
+WriteFails failures.NoMemory before after = Unit {0}
+WriteFails failures.ReadFault before after = ⊥

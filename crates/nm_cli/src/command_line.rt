@@ -1,24 +1,28 @@
 // A run of the program, over its input and its output.
 ghost use Rattle.std.specs.Prelude.{◌≡◌, ◌≤◌, ◌↔◌, map, None, IfSome, string_bytes};
 ghost use Rattle.nm_base.specs.declared.outcome.Status.TheVariants.{Usage};
-ghost use Rattle.nm_cli.specs.Answered.{Answers, EndsUnlessFaults, Untouched};
-ghost use Rattle.nm_cli.specs.CommandLine.{form_of};
-ghost use Rattle.nm_cli.specs.Forms.{outcome_by, FormHasCause, FormReads};
+ghost use Rattle.nm_session.specs.Answered.{Answers, EndsUnlessFaults, Untouched};
+ghost use Rattle.nm_cli.specs.CommandLine.{HasProjects, form_of};
+ghost use Rattle.nm_cli.specs.Forms.{due_by, FormHasCause, FormReads};
 
 use crate::form::Form;
+use crate::generated::write_generated;
 use crate::report::{Report, report_on};
-use crate::stream::session;
 use nm_base::{Sink, Source, Status};
+use nm_session::session;
 use std::alloc::Global;
 
-/// Runs the form that the words after the program's name are, which is one word alone:
+/// Runs the form that the words after the program's name are:
 ///
-/// - `session` answers the commands of a session stream, as [`session`](crate::session) says.
+/// - `session` answers the commands of a session stream, as [`session`] says.
 /// - `canon` reads a document and writes its canonical document. The status is `Done`.
 /// - `check` reads a document and writes `full ID N`, the identifier of the full model and the
 ///   number of its statements, or `difference ID P R F`, the identifier of the difference model and
 ///   the numbers of its preconditions, its reverse and its forward differences. The status is
 ///   `Done`.
+/// - `gen N SEED` reads nothing and writes a session of `N` projects, 1 to 2,000, which `SEED`
+///   determines, as [`generate`](nm_gen::generate) says. The status is `Done`. The numbers are decimal digits without
+///   a leading zero.
 ///
 /// Where a document has a fault, `canon` and `check` write `fault AT CODE`, its place in bytes and
 /// the name of its code, and the status is `Refused`. Both read the input to its end before they
@@ -45,12 +49,12 @@ pub fn run<S: Source, K: Sink>(
 
     // A form is answered as it is due on the bytes that the input had left.
     ensures answers { IfSome (form_of (map string_bytes words.now.items)) (λ form. IfSome (S.left input.old) (λ bytes.
-        Answers (outcome_by form bytes) result (K.written output.old) (K.written output.new))) }
+        Answers (due_by form bytes) result (K.written output.old) (K.written output.new))) }
     ensures cause { IfSome (form_of (map string_bytes words.now.items)) (λ form.
         FormHasCause form result (S.faults input.old) (S.faults input.new) (K.faults output.old) (K.faults output.new)) }
     ensures complete { IfSome (form_of (map string_bytes words.now.items)) (λ form. IfSome (S.left input.old) (λ bytes.
-        EndsUnlessFaults (outcome_by form bytes) result (K.written output.old) (K.written output.new) (S.faults input.old) (S.faults input.new) (K.faults output.old) (K.faults output.new))) }
-    ensures read { IfSome (form_of (map string_bytes words.now.items)) (λ form. FormReads form result (S.left input.old) (S.left input.new)) }
+        EndsUnlessFaults (due_by form bytes) result (K.written output.old) (K.written output.new) (S.faults input.old) (S.faults input.new) (K.faults output.old) (K.faults output.new))) }
+    ensures read { IfSome (form_of (map string_bytes words.now.items)) (λ form. FormReads form result (S.left input.old) (S.left input.new) (S.faults input.old) (S.faults input.new)) }
 
     ensures reads_kept { S.faults input.old ≤ S.faults input.new }
     ensures writes_kept { K.faults output.old ≤ K.faults output.new }
@@ -65,11 +69,12 @@ pub fn run<S: Source, K: Sink>(
 
 /// Runs one form.
 fn perform<S: Source, K: Sink>(alloc: Global, form: Form, input: &mut S, output: &mut K) -> Status
-    ensures answers { IfSome (S.left input.old) (λ bytes. Answers (outcome_by form bytes) result (K.written output.old) (K.written output.new)) }
+    requires { HasProjects form }
+    ensures answers { IfSome (S.left input.old) (λ bytes. Answers (due_by form bytes) result (K.written output.old) (K.written output.new)) }
     ensures cause { FormHasCause form result (S.faults input.old) (S.faults input.new) (K.faults output.old) (K.faults output.new) }
     ensures complete { IfSome (S.left input.old) (λ bytes.
-        EndsUnlessFaults (outcome_by form bytes) result (K.written output.old) (K.written output.new) (S.faults input.old) (S.faults input.new) (K.faults output.old) (K.faults output.new)) }
-    ensures read { FormReads form result (S.left input.old) (S.left input.new) }
+        EndsUnlessFaults (due_by form bytes) result (K.written output.old) (K.written output.new) (S.faults input.old) (S.faults input.new) (K.faults output.old) (K.faults output.new)) }
+    ensures read { FormReads form result (S.left input.old) (S.left input.new) (S.faults input.old) (S.faults input.new) }
     ensures reads_kept { S.faults input.old ≤ S.faults input.new }
     ensures writes_kept { K.faults output.old ≤ K.faults output.new }
     ensures source_beside { S.beside input.new ≡ S.beside input.old }
@@ -79,5 +84,6 @@ fn perform<S: Source, K: Sink>(alloc: Global, form: Form, input: &mut S, output:
         Form::Session => session(alloc, input, output),
         Form::Canon => report_on(alloc, Report::Canonical, input, output),
         Form::Check => report_on(alloc, Report::Counts, input, output),
+        Form::Gen { projects, seed } => write_generated(alloc, projects, seed, output),
     }
 }

@@ -1,19 +1,19 @@
 // What is written of a document.
 ghost use Rattle.std.specs.Prelude.{◌≡◌, ◌≤◌, IfOk, IfErr, IfSome, OnErr, OnOk};
 ghost use Rattle.std.specs.Io.KnownBytes.{Appends};
-ghost use Rattle.nm_cli.specs.Answered.{Answers, AppendsPrefix, EndsAs, EndsUnlessFaults};
-ghost use Rattle.nm_cli.specs.Body.{body_of};
+ghost use Rattle.nm_session.specs.Answered.{Answers, AppendsPrefix, EndsAs, EndsUnlessFaults};
+ghost use Rattle.nm_reader.specs.Read.{read_due};
 ghost use Rattle.nm_cli.specs.Report.{counts_line, fault_report, report_of, reported};
-ghost use Rattle.nm_cli.specs.Reported.{ReportHasCause, ReadsThrough, WriteStops};
+ghost use Rattle.nm_cli.specs.Reported.{ReportHasCause, ReadsThrough, WriteFails};
 ghost use Rattle.nm_writer.specs.Canonical.{canonical_of};
 
-use crate::answer::{counts_line, fault_report};
-use crate::output::write_out;
-use crate::stop::Stop;
+use crate::counts::counts_line;
+use crate::failure::Failure;
 use crate::whole_input::read_through;
-use nm_base::{Sink, Source, Status};
+use nm_base::{Sink, Source, Status, write_whole};
 use nm_model::Document;
 use nm_reader::{Fault, ReadError, read};
+use nm_session::fault_line;
 use nm_writer::write_to;
 use std::alloc::Global;
 
@@ -33,10 +33,10 @@ pub fn report_on<S: Source, K: Sink>(
     source: &mut S,
     sink: &mut K,
 ) -> Status
-    ensures answers { IfSome (S.left source.old) (λ input. Answers (reported report (body_of input)) result (K.written sink.old) (K.written sink.new)) }
+    ensures answers { IfSome (S.left source.old) (λ input. Answers (reported report (read_due input)) result (K.written sink.old) (K.written sink.new)) }
     ensures cause { ReportHasCause result (S.faults source.old) (S.faults source.new) (K.faults sink.old) (K.faults sink.new) }
     ensures complete { IfSome (S.left source.old) (λ input.
-        EndsUnlessFaults (reported report (body_of input)) result (K.written sink.old) (K.written sink.new) (S.faults source.old) (S.faults source.new) (K.faults sink.old) (K.faults sink.new)) }
+        EndsUnlessFaults (reported report (read_due input)) result (K.written sink.old) (K.written sink.new) (S.faults source.old) (S.faults source.new) (K.faults sink.old) (K.faults sink.new)) }
     ensures read { ReadsThrough result (S.left source.old) (S.left source.new) }
     ensures reads_kept { S.faults source.old ≤ S.faults source.new }
     ensures writes_kept { K.faults sink.old ≤ K.faults sink.new }
@@ -46,9 +46,9 @@ pub fn report_on<S: Source, K: Sink>(
     match read_through(alloc, source) {
         Ok(bytes) => match write_report(alloc, report, &bytes, sink) {
             Ok(status) => status,
-            Err(stop) => stop.status(),
+            Err(failure) => failure.status(),
         },
-        Err(stop) => stop.status(),
+        Err(failure) => failure.status(),
     }
 }
 
@@ -58,10 +58,10 @@ fn write_report<K: Sink>(
     report: Report,
     bytes: &[u8],
     sink: &mut K,
-) -> Result<Status, Stop>
-    ensures whole { IfOk result (λ status. EndsAs (reported report (body_of bytes.now)) status (K.written sink.old) (K.written sink.new)) }
-    ensures front { OnErr result (AppendsPrefix (K.written sink.old) (K.written sink.new) (reported report (body_of bytes.now)).replies) }
-    ensures stop { IfErr result (λ stop. WriteStops stop (K.faults sink.old) (K.faults sink.new)) }
+) -> Result<Status, Failure>
+    ensures whole { IfOk result (λ status. EndsAs (reported report (read_due bytes.now)) status (K.written sink.old) (K.written sink.new)) }
+    ensures front { OnErr result (AppendsPrefix (K.written sink.old) (K.written sink.new) (reported report (read_due bytes.now)).replies) }
+    ensures failure { IfErr result (λ failure. WriteFails failure (K.faults sink.old) (K.faults sink.new)) }
     ensures writes_kept { K.faults sink.old ≤ K.faults sink.new }
     ensures beside_stays { K.beside sink.new ≡ K.beside sink.old }
 {
@@ -74,7 +74,7 @@ fn write_report<K: Sink>(
             write_fault(alloc, fault, sink)?;
             Ok(Status::Refused)
         }
-        Err(ReadError::NoMemory) => Err(Stop::NoMemory),
+        Err(ReadError::NoMemory) => Err(Failure::NoMemory),
     }
 }
 
@@ -84,10 +84,10 @@ fn write_model<K: Sink>(
     report: Report,
     document: &Document,
     sink: &mut K,
-) -> Result<(), Stop>
+) -> Result<(), Failure>
     ensures whole { OnOk result (Appends (K.written sink.old) (K.written sink.new) (report_of report document.now)) }
     ensures front { OnErr result (AppendsPrefix (K.written sink.old) (K.written sink.new) (report_of report document.now)) }
-    ensures stop { IfErr result (λ stop. WriteStops stop (K.faults sink.old) (K.faults sink.new)) }
+    ensures failure { IfErr result (λ failure. WriteFails failure (K.faults sink.old) (K.faults sink.new)) }
     ensures writes_kept { K.faults sink.old ≤ K.faults sink.new }
     ensures beside_stays { K.beside sink.new ≡ K.beside sink.old }
 {
@@ -98,10 +98,10 @@ fn write_model<K: Sink>(
 }
 
 /// Writes the canonical document of a model.
-fn write_canonical<K: Sink>(alloc: Global, document: &Document, sink: &mut K) -> Result<(), Stop>
+fn write_canonical<K: Sink>(alloc: Global, document: &Document, sink: &mut K) -> Result<(), Failure>
     ensures whole { OnOk result (Appends (K.written sink.old) (K.written sink.new) (canonical_of document.now)) }
     ensures front { OnErr result (AppendsPrefix (K.written sink.old) (K.written sink.new) (canonical_of document.now)) }
-    ensures stop { IfErr result (λ stop. WriteStops stop (K.faults sink.old) (K.faults sink.new)) }
+    ensures failure { IfErr result (λ failure. WriteFails failure (K.faults sink.old) (K.faults sink.new)) }
     ensures writes_kept { K.faults sink.old ≤ K.faults sink.new }
     ensures beside_stays { K.beside sink.new ≡ K.beside sink.old }
 {
@@ -109,25 +109,36 @@ fn write_canonical<K: Sink>(alloc: Global, document: &Document, sink: &mut K) ->
 }
 
 /// Writes the identifier of a model and how many statements it has.
-fn write_counts<K: Sink>(alloc: Global, document: &Document, sink: &mut K) -> Result<(), Stop>
+fn write_counts<K: Sink>(alloc: Global, document: &Document, sink: &mut K) -> Result<(), Failure>
     ensures whole { OnOk result (Appends (K.written sink.old) (K.written sink.new) (counts_line document.now)) }
     ensures front { OnErr result (AppendsPrefix (K.written sink.old) (K.written sink.new) (counts_line document.now)) }
-    ensures stop { IfErr result (λ stop. WriteStops stop (K.faults sink.old) (K.faults sink.new)) }
+    ensures failure { IfErr result (λ failure. WriteFails failure (K.faults sink.old) (K.faults sink.new)) }
     ensures writes_kept { K.faults sink.old ≤ K.faults sink.new }
     ensures beside_stays { K.beside sink.new ≡ K.beside sink.old }
 {
     let line = counts_line(alloc, document)?;
-    write_out(sink, &line)
+    write_text(sink, &line)
 }
 
 /// Writes the place and the code of a fault.
-fn write_fault<K: Sink>(alloc: Global, fault: Fault, sink: &mut K) -> Result<(), Stop>
+fn write_fault<K: Sink>(alloc: Global, fault: Fault, sink: &mut K) -> Result<(), Failure>
     ensures whole { OnOk result (Appends (K.written sink.old) (K.written sink.new) (fault_report fault)) }
     ensures front { OnErr result (AppendsPrefix (K.written sink.old) (K.written sink.new) (fault_report fault)) }
-    ensures stop { IfErr result (λ stop. WriteStops stop (K.faults sink.old) (K.faults sink.new)) }
+    ensures failure { IfErr result (λ failure. WriteFails failure (K.faults sink.old) (K.faults sink.new)) }
     ensures writes_kept { K.faults sink.old ≤ K.faults sink.new }
     ensures beside_stays { K.beside sink.new ≡ K.beside sink.old }
 {
-    let line = fault_report(alloc, fault)?;
-    write_out(sink, &line)
+    let line = fault_line(alloc, b"fault", fault)?;
+    write_text(sink, &line)
+}
+
+/// Writes a text whole.
+pub fn write_text<K: Sink>(sink: &mut K, text: &[u8]) -> Result<(), Failure>
+    ensures whole { OnOk result (Appends (K.written sink.old) (K.written sink.new) text.now) }
+    ensures front { OnErr result (AppendsPrefix (K.written sink.old) (K.written sink.new) text.now) }
+    ensures failure { IfErr result (λ failure. WriteFails failure (K.faults sink.old) (K.faults sink.new)) }
+    ensures writes_kept { K.faults sink.old ≤ K.faults sink.new }
+    ensures beside_stays { K.beside sink.new ≡ K.beside sink.old }
+{
+    write_whole(sink, text).map_err(|_| Failure::WriteFault)
 }

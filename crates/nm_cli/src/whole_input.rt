@@ -1,10 +1,10 @@
 // Reading a document to its end.
 ghost use Rattle.std.specs.Prelude.{◌≡◌, ◌<◌, ◌≤◌, ◌⊎◌, length, take, IfOk, IfErr};
 ghost use Rattle.std.specs.Io.KnownBytes.{Consumes, IsAtEnd};
-ghost use Rattle.nm_cli.specs.Reported.{ReadStops};
+ghost use Rattle.nm_cli.specs.Reported.{ReadFails};
 ghost use Rattle.nm_model.specs.Limits.{longest_document};
 
-use crate::stop::Stop;
+use crate::failure::Failure;
 use nm_base::Source;
 use nm_model::LONGEST_DOCUMENT;
 use std::alloc::Global;
@@ -13,10 +13,10 @@ use std::alloc::Global;
 const CHUNK: usize = 65_536;
 
 /// Reads a source to its end, or to more bytes than a document may have.
-pub fn read_through<S: Source>(alloc: Global, source: &mut S) -> Result<Vec<u8>, Stop>
+pub fn read_through<S: Source>(alloc: Global, source: &mut S) -> Result<Vec<u8>, Failure>
     ensures taken { IfOk result (λ bytes. Consumes (S.left source.old) (S.left source.new) bytes.items) }
     ensures through { IfOk result (λ bytes. IsAtEnd (S.left source.new) ⊎ (longest_document < length bytes.items)) }
-    ensures stop { IfErr result (λ stop. ReadStops stop (S.faults source.old) (S.faults source.new)) }
+    ensures failure { IfErr result (λ failure. ReadFails failure (S.faults source.old) (S.faults source.new)) }
     ensures reads_kept { S.faults source.old ≤ S.faults source.new }
     ensures beside_stays { S.beside source.new ≡ S.beside source.old }
 {
@@ -33,14 +33,14 @@ pub fn read_through<S: Source>(alloc: Global, source: &mut S) -> Result<Vec<u8>,
 }
 
 /// Reads some bytes, or none at the end of the source.
-fn read_chunk<S: Source>(source: &mut S, chunk: &mut [u8]) -> Result<usize, Stop>
+fn read_chunk<S: Source>(source: &mut S, chunk: &mut [u8]) -> Result<usize, Failure>
     requires { 0 < length chunk.old }
     ensures within { IfOk result (λ count. count ≤ length chunk.new) }
     ensures taken { IfOk result (λ count. Consumes (S.left source.old) (S.left source.new) (take count chunk.new)) }
     ensures end { IfOk result (λ count. count ≡ 0 → IsAtEnd (S.left source.new)) }
-    ensures stop { IfErr result (λ stop. ReadStops stop (S.faults source.old) (S.faults source.new)) }
+    ensures failure { IfErr result (λ failure. ReadFails failure (S.faults source.old) (S.faults source.new)) }
     ensures reads_kept { S.faults source.old ≤ S.faults source.new }
     ensures beside_stays { S.beside source.new ≡ S.beside source.old }
 {
-    source.read(chunk).map_err(|_| Stop::ReadFault)
+    source.read(chunk).map_err(|_| Failure::ReadFault)
 }

@@ -74,3 +74,31 @@ fn a_project_is_revised(rt: HostRuntime) -> Result<(), Fail> {
     assert_eq!(rt; outcome.status, Status::Done);
     Ok(())
 }
+
+/// The object and the timeline of the substation that the project renames, and of a resource that
+/// nothing names.
+const OBJECT_REPLIES: &[u8] = br##"ok 0
+ok 1
+statements 2
+#_20000000-0000-4000-8000-000000000001 <http://iec.ch/TC57/2013/CIM-schema-cim16#IdentifiedObject.name> "North 2"
+#_20000000-0000-4000-8000-000000000001 <http://www.w3.org/1999/02/22-rdf-syntax-ns#type> <http://iec.ch/TC57/2013/CIM-schema-cim16#Substation>
+lines 5
+base #_20000000-0000-4000-8000-000000000001 <http://iec.ch/TC57/2013/CIM-schema-cim16#IdentifiedObject.name> "North"
+2027-04-01 30000000-0000-4000-8000-000000000001 reverse #_20000000-0000-4000-8000-000000000001 <http://iec.ch/TC57/2013/CIM-schema-cim16#IdentifiedObject.name> "North"
+2027-04-01 30000000-0000-4000-8000-000000000001 forward #_20000000-0000-4000-8000-000000000001 <http://iec.ch/TC57/2013/CIM-schema-cim16#IdentifiedObject.name> "North 2"
+base #_20000000-0000-4000-8000-000000000001 <http://www.w3.org/1999/02/22-rdf-syntax-ns#type> <http://iec.ch/TC57/2013/CIM-schema-cim16#Substation>
+2027-04-01 30000000-0000-4000-8000-000000000001 precondition #_20000000-0000-4000-8000-000000000001 <http://www.w3.org/1999/02/22-rdf-syntax-ns#type> <http://iec.ch/TC57/2013/CIM-schema-cim16#Substation>
+statements 0
+end 1
+"##;
+
+#[test]
+fn a_resource_is_told_on_a_day_and_over_time(rt: HostRuntime) -> Result<(), Fail> {
+    let alloc = rt.alloc();
+    let questions =
+        b"object 2027-04-01 #_20000000-0000-4000-8000-000000000001\ntimeline urn:uuid:20000000-0000-4000-8000-000000000001\nobject 2027-04-01 #nobody\nend\n";
+    let outcome = behind_project(alloc, &[questions])?;
+    assert_eq!(rt; outcome.written.as_slice(), OBJECT_REPLIES);
+    assert_eq!(rt; outcome.status, Status::Done);
+    Ok(())
+}

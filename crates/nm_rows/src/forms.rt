@@ -106,3 +106,19 @@ fn a_write_of_a_document_that_fails_is_told(rt: HostRuntime) -> Result<(), Fail>
     }
     Ok(())
 }
+
+/// The last lines of a generated session.
+const GENERATED_END: &[u8] =
+    b"withdraw 00000002-0000-4000-8000-000000000014\nsummary 2031-12-31\nsummary 2036-12-31\nend\n";
+
+#[test]
+fn a_session_is_generated(rt: HostRuntime) -> Result<(), Fail> {
+    let alloc = rt.alloc();
+    let outcome = run_words(alloc, &["gen", "20", "7"], b"", &[], &[])?;
+    assert_eq!(rt; outcome.status, Status::Done);
+    let written = outcome.written.as_slice();
+    assert_eq!(rt; written.len(), 310_608);
+    assert!(rt; written.starts_with(b"base 285209\n"));
+    assert!(rt; written.ends_with(GENERATED_END));
+    Ok(())
+}

@@ -146,5 +146,7 @@ fn other_words_are_no_form(rt: HostRuntime) -> Result<(), Fail> {
     assert!(rt; are_no_form(alloc, &["session", "extra"])?);
     assert!(rt; are_no_form(alloc, &["check", "canon"])?);
     assert!(rt; are_no_form(alloc, &["--help"])?);
+    assert!(rt; are_no_form(alloc, &["gen", "0", "7"])?);
+    assert!(rt; are_no_form(alloc, &["gen", "2001", "7"])?);
     Ok(())
 }

@@ -14,5 +14,5 @@ returns-in-Ok-write_report-clause-complete g c =
 
 pub returns-in-Ok-clause-answers : goal.returns-in-Ok-clause-answers
 returns-in-Ok-clause-answers g c =
-    part_report _ _ c.in-Ok.bytes.items c.deref.result.now c.args.report c.in-Err-write_report.stop c.status.result _ _ _ _ c.deref.ensures.value c.status.ensures
-    c.in-Ok.ensures.taken c.in-Ok.ensures.through c.in-Err-write_report.ensures.front c.in-Err-write_report.ensures.stop
+    part_report _ _ c.in-Ok.bytes.items c.deref.result.now c.args.report c.in-Err-write_report.failure c.status.result _ _ _ _ c.deref.ensures.value c.status.ensures
+    c.in-Ok.ensures.taken c.in-Ok.ensures.through c.in-Err-write_report.ensures.front c.in-Err-write_report.ensures.failure

@@ -1,0 +1,14 @@
+pub mod Numerals
+pub mod Turns
+pub mod ExamplesOfReplies
+pub mod LineFeeds
+pub mod Gives
+pub mod Commands
+pub mod Bodies
+pub mod Answered
+pub mod Sessions
+pub mod Openings
+pub mod StreamExamples
+pub mod LogLines
+pub mod LogCommands
+pub mod Logs

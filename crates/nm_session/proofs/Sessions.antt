@@ -1,0 +1,429 @@
+-- Lemmas on a session in between its commands, and at its end.
+use Rattle.std.proofs.Common.{◌≡◌, ℕ, zero, suc, ◌+◌, ◌-◌, ◌<◌, ◌≤◌, List, [], ◌++◌, Option, None, Some, IfSome, Bool, true, false, cond, length, take, drop, codes, refl, sym, ap, ◌∙◌, subst, arith, append_assoc, inl, inr}
+use Rattle.std.proofs.lemmas.List.{length-take, take_at, drop_at, take-append-le}
+use Rattle.std.proofs.Math.Seq.{take-add}
+use Rattle.std.proofs.lemmas.Bool.{lt-ltb, le-ltb}
+use Rattle.std.proofs.KnownBytes.{Appends-trans, Appends-nil}
+use Rattle.std.specs.Io.KnownBytes.{Appends}
+use Rattle.nm_base.specs.Written.{AppendsFront}
+use Rattle.nm_base.specs.declared.outcome.Status.{Status}
+use Rattle.nm_base.specs.declared.outcome.Status.TheVariants.{Done, Refused, Usage, ReadFault, WriteFault, NoMemory, BadSession, Cut, TooMuch, DoorFault}
+use Rattle.nm_session.specs.Answered.{Answers, due_of, AppendsPrefix, is_ending, AnswersStream, AnswersUnlessFaults, HasCause}
+use Rattle.nm_session.specs.Turns.{AnswersTurn, NoAnswerBy, AnswerStops, EndsBy, EndsWith, NamesBadLine, NoTurnBy, TakesTurn, TurnStops}
+use Rattle.nm_session.specs.Buffered.{Buffered}
+use Rattle.nm_session.specs.Input.{coming, in_session}
+use Rattle.nm_session.specs.Limits.{longest_session}
+use Rattle.nm_session.specs.Received.{Received}
+use Rattle.nm_session.specs.Reply.{numbered}
+use Rattle.nm_session.specs.Stream.{Next, next_in, Outcome, behind_reply, behind_command, offset_behind, bad_line, short, outcome_of, outcome_within, short_ending, outcome}
+use Rattle.nm_session.specs.Turn.{Turn, turn_of}
+use Rattle.nm_session.proofs.Answered.{answers_part, answers_whole}
+use Rattle.nm_session.specs.declared.turn.State.{State}
+use Rattle.nm_session.specs.declared.turn.State.TheVariants.{Empty}
+use Rattle.nm_session.specs.Stops.{stop_by}
+use Rattle.nm_session.specs.Word.{is_end}
+use Rattle.nm_session.specs.declared.stop.Stop.{Stop}
+use Rattle.nm_session.specs.PlainWord.{PlainWord, Base, File, Revise, Redate, Withdraw, Assemble, Object, Timeline, Projects, Log, Summary, End}
+
+-- in between two commands: the replies so far, and then what comes of the rest, are the whole outcome
+pub record Standing (stream : List ℕ) (buffered : Buffered) (left : Option (List ℕ)) (state : State) (replies : List ℕ) : Type 0 where
+  pub bytes : List ℕ
+  pub known : coming buffered left ≡ Some bytes
+  pub size : buffered.given + length bytes ≡ length stream
+  pub turns : ℕ
+  pub enough : length (in_session buffered bytes) ≤ turns
+  pub whole : outcome stream ≡ behind_reply replies (outcome_within (suc turns) (short_ending stream) state buffered.given (in_session buffered bytes))
+
+pub first_standing : (stream : List ℕ) → Standing stream (record { ahead = []; given = 0 }) (Some stream) Empty []
+first_standing stream = record {
+  bytes = stream;
+  known = refl;
+  size = omega arith;
+  turns = length (take longest_session stream);
+  enough = omega arith;
+  whole = refl;
+}
+
+-- the same where the replies so far were written
+pub record Written (stream : List ℕ) (buffered : Buffered) (left : Option (List ℕ)) (state : State) (written now : Option (List ℕ)) : Type 0 where
+  pub replies : List ℕ
+  pub stands : Standing stream buffered left state replies
+  pub appended : Appends written now replies
+
+pub stands_first : (input : Received) (left written : Option (List ℕ)) → input ≡ record { buffered = record { ahead = []; given = 0 }; stopped = None }
+    → IfSome left (λ stream. Written stream input.buffered left Empty written written)
+stands_first input None written e = tt
+stands_first input (Some stream) written e =
+    subst (λ (h : Received). Written stream h.buffered (Some stream) Empty written written) (sym e)
+    (record { replies = []; stands = first_standing stream; appended = Appends-nil written })
+
+-- what comes of a rest, by what stands next
+pub unfolded : (turns : ℕ) (on_short : Status) (state : State) (at : ℕ) (bytes : List ℕ) (next : Next) → next_in state bytes ≡ next
+    → outcome_within (suc turns) on_short state at bytes ≡ outcome_of on_short (outcome_within turns on_short) state at bytes next
+unfolding outcome_within
+unfolded turns on_short state at bytes next e = ap (outcome_of on_short (outcome_within turns on_short) state at bytes) e
+
+behind_both : (first second : List ℕ) (others : Outcome) → behind_reply first (behind_reply second others) ≡ behind_reply (first ++ second) others
+behind_both first second others = ap (λ (l : List ℕ). let o : Outcome = record others { replies = l } in o) (sym (append_assoc first second others.replies))
+
+goes_on : (word : PlainWord) (turn : Turn) (others : Outcome) → is_end word ≡ false → behind_command word turn others ≡ behind_reply turn.reply others
+goes_on (Base len) turn others e = refl
+goes_on (File day len) turn others e = refl
+goes_on (Revise project len) turn others e = refl
+goes_on (Redate project day) turn others e = refl
+goes_on (Withdraw project) turn others e = refl
+goes_on (Assemble day) turn others e = refl
+goes_on (Object day id) turn others e = refl
+goes_on (Timeline id) turn others e = refl
+goes_on Projects turn others e = refl
+goes_on Log turn others e = refl
+goes_on (Summary day) turn others e = refl
+goes_on End turn others e = cc
+
+is_over : (word : PlainWord) (turn : Turn) (others : Outcome) → is_end word ≡ true → behind_command word turn others ≡ record { replies = turn.reply; ending = Done; state = turn.state; at = 0 }
+is_over (Base len) turn others e = cc
+is_over (File day len) turn others e = cc
+is_over (Revise project len) turn others e = cc
+is_over (Redate project day) turn others e = cc
+is_over (Withdraw project) turn others e = cc
+is_over (Assemble day) turn others e = cc
+is_over (Object day id) turn others e = cc
+is_over (Timeline id) turn others e = cc
+is_over Projects turn others e = cc
+is_over Log turn others e = cc
+is_over (Summary day) turn others e = cc
+is_over End turn others e = refl
+
+-- ---- the next turn
+
+-- the rest behind a command, as the session may take it
+record Behind (old new : Buffered) (bytes rest : List ℕ) : Type 0 where
+  offset : offset_behind old.given (in_session old bytes) (in_session new rest) ≡ new.given
+  shorter : length (in_session new rest) < length (in_session old bytes)
+
+behind : (old new : Buffered) (bytes rest : List ℕ) → old.given + length bytes ≡ new.given + length rest → old.given < new.given → new.given ≤ longest_session → Behind old new bytes rest
+behind old new bytes rest size more limit = record {
+  offset = omega (arith, length-take (longest_session - old.given) bytes, length-take (longest_session - new.given) rest);
+  shorter = omega (arith, length-take (longest_session - old.given) bytes, length-take (longest_session - new.given) rest);
+}
+
+-- a turn that was not the last
+stands_after : (stream : List ℕ) (old new : Buffered) (left : Option (List ℕ)) (before after : State) (bytes replies reply : List ℕ) (turns : ℕ)
+    → old.given + length bytes ≡ length stream → length (in_session old bytes) ≤ turns
+    → outcome stream ≡ behind_reply replies (outcome_within (suc turns) (short_ending stream) before old.given (in_session old bytes))
+    → TakesTurn before after old new bytes left reply false → old.given < new.given → new.given ≤ longest_session
+    → Standing stream new left after (replies ++ reply)
+stands_after stream old new left before after bytes replies reply zero size enough whole taken more limit =
+    let shorter = (behind old new bytes taken.taken.rest taken.taken.size more limit).shorter in absurd (omega arith)
+stands_after stream old new left before after bytes replies reply (suc turns) size enough whole taken more limit =
+    let rest = taken.taken.rest in
+    let left_behind = behind old new bytes rest taken.taken.size more limit in
+    let shorter = left_behind.shorter in
+    let turn = turn_of before taken.word taken.body in
+    let later = outcome_within (suc turns) (short_ending stream) in
+    record {
+      bytes = rest;
+      known = taken.taken.known;
+      size = sym taken.taken.size ∙ size;
+      turns = turns;
+      enough = omega arith;
+      whole = whole ∙ ap (behind_reply replies)
+          (unfolded (suc turns) (short_ending stream) before old.given (in_session old bytes) _ taken.taken.next
+          ∙ goes_on taken.word turn (later turn.state (offset_behind old.given (in_session old bytes) (in_session new rest)) (in_session new rest)) (sym taken.last)
+          ∙ ap (λ (n : ℕ). behind_reply turn.reply (later turn.state n (in_session new rest))) left_behind.offset
+          ∙ ap (λ (s : State). behind_reply turn.reply (later s new.given (in_session new rest))) (sym taken.state)
+          ∙ ap (λ (r : List ℕ). behind_reply r (later after new.given (in_session new rest))) (sym taken.replied))
+          ∙ behind_both replies reply (later after new.given (in_session new rest));
+    }
+
+-- of each stream that is told
+pub each : {P Q : List ℕ → Type 0} (left : Option (List ℕ)) → ((stream : List ℕ) → P stream → Q stream) → IfSome left P → IfSome left Q
+each None f h = tt
+each (Some stream) f h = f stream h
+
+pub at_known : {known : Option (List ℕ)} {bytes : List ℕ} (P : List ℕ → Type 0) → known ≡ Some bytes → IfSome known P → P bytes
+at_known P e h = subst (λ o. IfSome o P) e h
+
+pub stands_on : (stream : List ℕ) (old new : Buffered) (left : Option (List ℕ)) (before after : State) (replies reply : List ℕ) (stands : Standing stream old left before replies) (rest : Option (List ℕ))
+    → TakesTurn before after old new stands.bytes rest reply false → old.given < new.given → new.given ≤ longest_session → Standing stream new rest after (replies ++ reply)
+stands_on stream old new left before after replies reply stands rest turn more limit =
+    stands_after stream old new rest before after stands.bytes replies reply stands.turns stands.size stands.enough stands.whole turn more limit
+
+pub stands_next : (stream : List ℕ) (old new : Buffered) (left rest : Option (List ℕ)) (before after : State) (written mid now : Option (List ℕ)) (is_last : Bool) → is_last ≡ false
+    → Written stream old left before written mid
+    → IfSome (coming old left) (λ bytes. AnswersTurn before after old new bytes rest mid now is_last) → old.given < new.given → new.given ≤ longest_session
+    → Written stream new rest after written now
+stands_next stream old new left rest before after written mid now is_last goes so_far taken more limit =
+    let stands = so_far.stands in
+    let answered = at_known (λ bytes. AnswersTurn before after old new bytes rest mid now is_last) stands.known taken in
+    record {
+      replies = so_far.replies ++ answered.reply;
+      stands = stands_on stream old new left before after so_far.replies answered.reply stands rest
+          (subst (TakesTurn before after old new stands.bytes rest answered.reply) goes answered.turn) more limit;
+      appended = Appends-trans written mid now so_far.replies answered.reply so_far.appended answered.appended;
+    }
+
+-- ---- the end
+
+-- all of the replies were written
+whole_answer : (stream : List ℕ) (status : Status) (written now : Option (List ℕ)) (given : Outcome) → outcome stream ≡ given → status ≡ given.ending → Appends written now given.replies
+    → AnswersStream stream status written now
+whole_answer stream status written now given e ends appended =
+    subst (λ (due : Outcome). Answers (due_of due) status written now) (sym e) (answers_whole (due_of given) status written now (record { ending = ends; replies = appended }))
+
+take_behind : (xs ys : List ℕ) (n : ℕ) → take (length xs + n) (xs ++ ys) ≡ xs ++ take n ys
+take_behind xs ys n =
+    take-add (length xs) n (xs ++ ys) ∙ ap (λ l. l ++ take n (drop (length xs) (xs ++ ys))) (take_at xs ys (length xs) refl) ∙ ap (λ l. xs ++ take n l) (drop_at xs ys (length xs) refl)
+
+-- some of the first replies were written, at a status that is no ending
+part_answer : (stream : List ℕ) (status : Status) (written mid now : Option (List ℕ)) (replies : List ℕ) (others : Outcome) → outcome stream ≡ behind_reply replies others
+    → Appends written mid replies → AppendsPrefix mid now others.replies → is_ending status ≡ false → AnswersStream stream status written now
+part_answer stream status written mid now replies others e appended more no_ending =
+    let all : (outcome stream).replies ≡ replies ++ others.replies = ap (λ (o : Outcome). o.replies) e in
+    let front : take (length replies + more.0) (outcome stream).replies ≡ replies ++ take more.0 others.replies =
+    ap (take (length replies + more.0)) all ∙ take_behind replies others.replies more.0 in
+    answers_part (due_of (outcome stream)) status written now no_ending
+    (length replies + more.0, subst (Appends written now) (sym front) (Appends-trans written mid now replies (take more.0 others.replies) appended more.1))
+
+nothing_more : (mid now : Option (List ℕ)) (bytes : List ℕ) → now ≡ mid → AppendsPrefix mid now bytes
+nothing_more mid now bytes e = (0, subst (λ o. Appends mid o []) (sym e) (Appends-nil mid))
+
+-- the front of a reply is the front of what comes of the rest
+front_of_reply : (word : PlainWord) (turn : Turn) (others : Outcome) (n : ℕ) → n ≤ length turn.reply → take n (behind_command word turn others).replies ≡ take n turn.reply
+front_of_reply (Base len) turn others n h = take-append-le n turn.reply others.replies h
+front_of_reply (File day len) turn others n h = take-append-le n turn.reply others.replies h
+front_of_reply (Revise project len) turn others n h = take-append-le n turn.reply others.replies h
+front_of_reply (Redate project day) turn others n h = take-append-le n turn.reply others.replies h
+front_of_reply (Withdraw project) turn others n h = take-append-le n turn.reply others.replies h
+front_of_reply (Assemble day) turn others n h = take-append-le n turn.reply others.replies h
+front_of_reply (Object day id) turn others n h = take-append-le n turn.reply others.replies h
+front_of_reply (Timeline id) turn others n h = take-append-le n turn.reply others.replies h
+front_of_reply Projects turn others n h = take-append-le n turn.reply others.replies h
+front_of_reply Log turn others n h = take-append-le n turn.reply others.replies h
+front_of_reply (Summary day) turn others n h = take-append-le n turn.reply others.replies h
+front_of_reply End turn others n h = refl
+
+-- the outcome, where the last command was taken
+pub done_outcome : (stream : List ℕ) (old new : Buffered) (left rest : Option (List ℕ)) (before after : State) (replies reply : List ℕ)
+    → (stands : Standing stream old left before replies) → TakesTurn before after old new stands.bytes rest reply true
+    → outcome stream ≡ record { replies = replies ++ reply; ending = Done; state = after; at = 0 }
+done_outcome stream old new left rest before after replies reply stands turn =
+    let made = turn_of before turn.word turn.body in
+    let later = outcome_within stands.turns (short_ending stream) made.state (offset_behind old.given (in_session old stands.bytes) (in_session new turn.taken.rest)) (in_session new turn.taken.rest) in
+    stands.whole ∙ ap (behind_reply replies)
+    (unfolded stands.turns (short_ending stream) before old.given (in_session old stands.bytes) _ turn.taken.next
+    ∙ is_over turn.word made later (sym turn.last)
+    ∙ ap (λ (s : State). let o : Outcome = record { replies = made.reply; ending = Done; state = s; at = 0 } in o) (sym turn.state)
+    ∙ ap (λ (r : List ℕ). let o : Outcome = record { replies = r; ending = Done; state = after; at = 0 } in o) (sym turn.replied))
+
+pub is_done : (stream : List ℕ) (old new : Buffered) (left rest : Option (List ℕ)) (before after : State) (written mid now : Option (List ℕ)) (is_last : Bool) → is_last ≡ true
+    → Written stream old left before written mid
+    → IfSome (coming old left) (λ bytes. AnswersTurn before after old new bytes rest mid now is_last)
+    → AnswersStream stream Done written now
+is_done stream old new left rest before after written mid now is_last over so_far taken =
+    let stands = so_far.stands in
+    let answered = at_known (λ bytes. AnswersTurn before after old new bytes rest mid now is_last) stands.known taken in
+    whole_answer stream Done written now _
+    (done_outcome stream old new left rest before after so_far.replies answered.reply stands (subst (TakesTurn before after old new stands.bytes rest answered.reply) over answered.turn))
+    refl
+    (Appends-trans written mid now so_far.replies answered.reply so_far.appended answered.appended)
+
+-- after a bad line
+ends_bad : (stream : List ℕ) (status : Status) (written mid between now : Option (List ℕ)) (replies : List ℕ) (state : State) (at before after : ℕ) → outcome stream ≡ behind_reply replies (bad_line state at)
+    → Appends written mid replies → between ≡ mid → NamesBadLine status at between now before after → AnswersStream stream status written now
+ends_bad stream BadSession written mid between now replies state at before after e appended same named =
+    whole_answer stream BadSession written now (behind_reply replies (bad_line state at)) e refl
+    (Appends-trans written mid now replies (numbered (codes "badline") at) appended (subst (λ o. Appends o now (numbered (codes "badline") at)) same named))
+ends_bad stream WriteFault written mid between now replies state at before after e appended same named =
+    part_answer stream WriteFault written mid now replies (bad_line state at) e appended
+    (subst (λ o. AppendsPrefix o now (numbered (codes "badline") at)) same (named.0.0, named.0.2)) refl
+ends_bad stream NoMemory written mid between now replies state at before after e appended same named =
+    part_answer stream NoMemory written mid now replies (bad_line state at) e appended (nothing_more mid now (numbered (codes "badline") at) (named ∙ same)) refl
+ends_bad stream Done written mid between now replies state at before after e appended same named = absurd named
+ends_bad stream Refused written mid between now replies state at before after e appended same named = absurd named
+ends_bad stream Usage written mid between now replies state at before after e appended same named = absurd named
+ends_bad stream ReadFault written mid between now replies state at before after e appended same named = absurd named
+ends_bad stream Cut written mid between now replies state at before after e appended same named = absurd named
+ends_bad stream TooMuch written mid between now replies state at before after e appended same named = absurd named
+ends_bad stream DoorFault written mid between now replies state at before after e appended same named = absurd named
+
+-- after less than a whole command
+ends_short : (stream : List ℕ) (stopped status : Status) (written mid between now : Option (List ℕ)) (replies : List ℕ) (state : State) → outcome stream ≡ behind_reply replies (short stopped state)
+    → Appends written mid replies → between ≡ mid → (status ≡ stopped) × (now ≡ between) → AnswersStream stream status written now
+ends_short stream stopped status written mid between now replies state e appended same as_stopped =
+    whole_answer stream status written now (behind_reply replies (short stopped state)) e as_stopped.0
+    (Appends-trans written mid now replies [] appended (subst (λ o. Appends mid o []) (sym (as_stopped.1 ∙ same)) (Appends-nil mid)))
+
+-- after a stop that tells of no ending, with nothing more written
+ends_early : (stream : List ℕ) (stopped status : Status) (written mid between now : Option (List ℕ)) (replies : List ℕ) (others : Outcome) → outcome stream ≡ behind_reply replies others
+    → is_ending stopped ≡ false → Appends written mid replies → AppendsPrefix mid between others.replies → (status ≡ stopped) × (now ≡ between) → AnswersStream stream status written now
+ends_early stream stopped status written mid between now replies others e no_ending appended more as_stopped =
+    part_answer stream status written mid now replies others e appended (subst (λ o. AppendsPrefix mid o others.replies) (sym as_stopped.1) more) (ap is_ending as_stopped.0 ∙ no_ending)
+
+-- the outcome, where a line is no command
+pub bad_outcome : (stream : List ℕ) (buffered : Buffered) (left : Option (List ℕ)) (state : State) (replies : List ℕ) (at : ℕ)
+    → (stands : Standing stream buffered left state replies) → NoTurnBy BadSession at state buffered stands.bytes
+    → outcome stream ≡ behind_reply replies (bad_line state at)
+bad_outcome stream buffered left state replies at stands why =
+    stands.whole ∙ ap (behind_reply replies)
+    (unfolded stands.turns (short_ending stream) state buffered.given (in_session buffered stands.bytes) _ why.1 ∙ ap (bad_line state) (sym why.0))
+
+-- .. and where less than a command is left
+pub cut_outcome : (stream : List ℕ) (buffered : Buffered) (left : Option (List ℕ)) (state : State) (replies : List ℕ) (at : ℕ)
+    → (stands : Standing stream buffered left state replies) → NoTurnBy Cut at state buffered stands.bytes
+    → outcome stream ≡ behind_reply replies (short Cut state)
+cut_outcome stream buffered left state replies at stands why =
+    stands.whole ∙ ap (behind_reply replies)
+    (unfolded stands.turns (short_ending stream) state buffered.given (in_session buffered stands.bytes) _ why.0
+    ∙ ap (λ (s : Status). short s state) (ap (λ b. cond b Cut TooMuch) (lt-ltb (length stream) longest_session (omega (arith, stands.size, why.1)))))
+
+pub full_outcome : (stream : List ℕ) (buffered : Buffered) (left : Option (List ℕ)) (state : State) (replies : List ℕ) (at : ℕ)
+    → (stands : Standing stream buffered left state replies) → NoTurnBy TooMuch at state buffered stands.bytes
+    → outcome stream ≡ behind_reply replies (short TooMuch state)
+full_outcome stream buffered left state replies at stands why =
+    stands.whole ∙ ap (behind_reply replies)
+    (unfolded stands.turns (short_ending stream) state buffered.given (in_session buffered stands.bytes) _ why.0
+    ∙ ap (λ (s : Status). short s state) (ap (λ b. cond b Cut TooMuch) (le-ltb (length stream) longest_session (omega (arith, stands.size, why.1)))))
+
+-- the same, by the stop of a turn
+ends_at : (stream : List ℕ) (buffered : Buffered) (left : Option (List ℕ)) (state : State) (stopped : Status) (at : ℕ) (status : Status) (written mid between now : Option (List ℕ)) (before after : ℕ)
+    → (so_far : Written stream buffered left state written mid) → NoAnswerBy stopped at state buffered so_far.stands.bytes mid between → EndsBy stopped at status between now before after
+    → AnswersStream stream status written now
+ends_at stream buffered left state BadSession at status written mid between now before after so_far why ends =
+    ends_bad stream status written mid between now so_far.replies state at before after
+    (bad_outcome stream buffered left state so_far.replies at so_far.stands why.0) so_far.appended why.1 ends
+ends_at stream buffered left state Cut at status written mid between now before after so_far why ends =
+    ends_short stream Cut status written mid between now so_far.replies state
+    (cut_outcome stream buffered left state so_far.replies at so_far.stands why.0) so_far.appended why.1 ends
+ends_at stream buffered left state TooMuch at status written mid between now before after so_far why ends =
+    ends_short stream TooMuch status written mid between now so_far.replies state
+    (full_outcome stream buffered left state so_far.replies at so_far.stands why.0) so_far.appended why.1 ends
+ends_at stream buffered left state WriteFault at status written mid between now before after so_far why ends =
+    let stands = so_far.stands in
+    let turn = turn_of state why.word why.body in
+    let others = outcome_within stands.turns (short_ending stream) turn.state (offset_behind buffered.given (in_session buffered stands.bytes) why.rest) why.rest in
+    let few : why.front.0 ≤ length turn.reply = omega (arith, why.front.1) in
+    ends_early stream WriteFault status written mid between now so_far.replies (behind_command why.word turn others)
+    (stands.whole ∙ ap (behind_reply so_far.replies) (unfolded stands.turns (short_ending stream) state buffered.given (in_session buffered stands.bytes) _ why.next))
+    refl so_far.appended
+    (why.front.0, subst (Appends mid between) (sym (front_of_reply why.word turn others why.front.0 few)) why.front.2)
+    ends
+ends_at stream buffered left state ReadFault at status written mid between now before after so_far why ends =
+    ends_early stream ReadFault status written mid between now so_far.replies _ so_far.stands.whole refl so_far.appended (nothing_more mid between _ why) ends
+ends_at stream buffered left state NoMemory at status written mid between now before after so_far why ends =
+    ends_early stream NoMemory status written mid between now so_far.replies _ so_far.stands.whole refl so_far.appended (nothing_more mid between _ why) ends
+ends_at stream buffered left state Done at status written mid between now before after so_far why ends = absurd why
+ends_at stream buffered left state Refused at status written mid between now before after so_far why ends = absurd why
+ends_at stream buffered left state Usage at status written mid between now before after so_far why ends = absurd why
+ends_at stream buffered left state DoorFault at status written mid between now before after so_far why ends = absurd why
+
+pub ends_stopped : (stream : List ℕ) (buffered : Buffered) (left : Option (List ℕ)) (state : State) (stopped : Stop) (status : Status) (written mid between now : Option (List ℕ)) (before after : ℕ)
+    → Written stream buffered left state written mid → IfSome (coming buffered left) (λ bytes. AnswerStops stopped state buffered bytes mid between) → EndsWith stopped status between now before after
+    → AnswersStream stream status written now
+ends_stopped stream buffered left state stopped status written mid between now before after so_far why ends =
+    ends_at stream buffered left state stopped.status stopped.at status written mid between now before after so_far
+    (at_known (λ bytes. AnswerStops stopped state buffered bytes mid between) so_far.stands.known why) ends
+
+-- ---- causes
+
+cause_from : (status : Status) (read_first read_before read_after write_first write_before write_between write_after : ℕ) → HasCause status read_before read_after write_before write_between
+    → read_first ≤ read_before → write_first ≤ write_before → write_between ≤ write_after → HasCause status read_first read_after write_first write_after
+cause_from ReadFault a b c d e f g h r w k = omega arith
+cause_from WriteFault a b c d e f g h r w k = omega arith
+cause_from Done a b c d e f g h r w k = tt
+cause_from NoMemory a b c d e f g h r w k = tt
+cause_from BadSession a b c d e f g h r w k = tt
+cause_from Cut a b c d e f g h r w k = tt
+cause_from TooMuch a b c d e f g h r w k = tt
+cause_from Refused a b c d e f g h r w k = absurd h
+cause_from Usage a b c d e f g h r w k = absurd h
+cause_from DoorFault a b c d e f g h r w k = absurd h
+
+bad_line_cause : (status : Status) (at : ℕ) (written now : Option (List ℕ)) (read_before read_after write_first write_before write_after : ℕ) → write_first ≤ write_before
+    → NamesBadLine status at written now write_before write_after → HasCause status read_before read_after write_first write_after
+bad_line_cause BadSession at written now a b c d e k named = tt
+bad_line_cause WriteFault at written now a b c d e k named = omega (arith, named.1)
+bad_line_cause NoMemory at written now a b c d e k named = tt
+bad_line_cause Done at written now a b c d e k named = absurd named
+bad_line_cause Refused at written now a b c d e k named = absurd named
+bad_line_cause Usage at written now a b c d e k named = absurd named
+bad_line_cause ReadFault at written now a b c d e k named = absurd named
+bad_line_cause Cut at written now a b c d e k named = absurd named
+bad_line_cause TooMuch at written now a b c d e k named = absurd named
+bad_line_cause DoorFault at written now a b c d e k named = absurd named
+
+-- the cause of the stop is that of the status
+cause_ended : (stopped : Status) (at : ℕ) (status : Status) (written now : Option (List ℕ)) (read_first read_before read_after write_first write_before write_between write_after : ℕ)
+    → HasCause stopped read_before read_after write_before write_between → read_first ≤ read_before → write_first ≤ write_before → write_before ≤ write_between → write_between ≤ write_after
+    → EndsBy stopped at status written now write_between write_after → HasCause status read_first read_after write_first write_after
+cause_ended BadSession at status written now a b c d e f g h r w u k ends = bad_line_cause status at written now a c d f g (omega arith) ends
+cause_ended ReadFault at status written now a b c d e f g h r w u k ends = subst (λ s. HasCause s a c d g) (sym ends.0) (cause_from ReadFault a b c d e f g h r w k)
+cause_ended WriteFault at status written now a b c d e f g h r w u k ends = subst (λ s. HasCause s a c d g) (sym ends.0) (cause_from WriteFault a b c d e f g h r w k)
+cause_ended Done at status written now a b c d e f g h r w u k ends = subst (λ s. HasCause s a c d g) (sym ends.0) tt
+cause_ended NoMemory at status written now a b c d e f g h r w u k ends = subst (λ s. HasCause s a c d g) (sym ends.0) tt
+cause_ended Cut at status written now a b c d e f g h r w u k ends = subst (λ s. HasCause s a c d g) (sym ends.0) tt
+cause_ended TooMuch at status written now a b c d e f g h r w u k ends = subst (λ s. HasCause s a c d g) (sym ends.0) tt
+cause_ended Refused at status written now a b c d e f g h r w u k ends = absurd h
+cause_ended Usage at status written now a b c d e f g h r w u k ends = absurd h
+cause_ended DoorFault at status written now a b c d e f g h r w u k ends = absurd h
+
+pub ended_cause : (stopped : Stop) (status : Status) (written now : Option (List ℕ)) (read_first read_before read_after write_first write_before write_between write_after : ℕ)
+    → HasCause stopped.status read_before read_after write_before write_between → read_first ≤ read_before → write_first ≤ write_before → write_before ≤ write_between → write_between ≤ write_after
+    → EndsWith stopped status written now write_between write_after → HasCause status read_first read_after write_first write_after
+ended_cause stopped = cause_ended stopped.status stopped.at
+
+-- without a fault that is told, the status is an ending or want of memory
+pub is_complete : (stream : List ℕ) (status : Status) (written now : Option (List ℕ)) (read_before read_after write_before write_after : ℕ) → HasCause status read_before read_after write_before write_after
+    → AnswersStream stream status written now → AnswersUnlessFaults stream status written now read_before read_after write_before write_after
+is_complete stream ReadFault written now a b c d h answers no_read no_write = absurd (no_read h)
+is_complete stream WriteFault written now a b c d h answers no_read no_write = absurd (no_write h)
+is_complete stream Done written now a b c d h answers no_read no_write = inl (answers.whole refl)
+is_complete stream BadSession written now a b c d h answers no_read no_write = inl (answers.whole refl)
+is_complete stream Cut written now a b c d h answers no_read no_write = inl (answers.whole refl)
+is_complete stream TooMuch written now a b c d h answers no_read no_write = inl (answers.whole refl)
+is_complete stream NoMemory written now a b c d h answers no_read no_write = inr refl
+is_complete stream Refused written now a b c d h answers no_read no_write = absurd h
+is_complete stream Usage written now a b c d h answers no_read no_write = absurd h
+is_complete stream DoorFault written now a b c d h answers no_read no_write = absurd h
+
+-- ---- a reply, and how it was written
+
+pub answers_turn : (before after : State) (old new : Buffered) (known left : Option (List ℕ)) (reply seen : List ℕ) (is_last : Bool) (written now : Option (List ℕ))
+    → IfSome known (λ bytes. TakesTurn before after old new bytes left reply is_last) → seen ≡ reply → Appends written now seen
+    → IfSome known (λ bytes. AnswersTurn before after old new bytes left written now is_last)
+answers_turn before after old new None left reply seen is_last written now turn same appended = tt
+answers_turn before after old new (Some bytes) left reply seen is_last written now turn same appended =
+    record { reply = reply; turn = turn; appended = subst (Appends written now) same appended }
+
+pub breaks_reply : (before after : State) (old new : Buffered) (known left : Option (List ℕ)) (reply seen : List ℕ) (is_last : Bool) (stop : Stop) (written now : Option (List ℕ))
+    → IfSome known (λ bytes. TakesTurn before after old new bytes left reply is_last) → seen ≡ reply → stop ≡ stop_by WriteFault → AppendsFront written now seen
+    → IfSome known (λ bytes. AnswerStops stop before old bytes written now)
+breaks_reply before after old new None left reply seen is_last stop written now turn same fault front = tt
+breaks_reply before after old new (Some bytes) left reply seen is_last stop written now turn same fault front =
+    subst (λ (s : Stop). AnswerStops s before old bytes written now) (sym fault)
+    (record {
+      word = turn.word;
+      body = turn.body;
+      rest = in_session new turn.taken.rest;
+      next = turn.taken.next;
+      front = subst (AppendsFront written now) (same ∙ turn.replied) front;
+    })
+
+-- what stops the taking of a command stops its answer
+stops_by : (status : Status) (at : ℕ) (state : State) (buffered : Buffered) (bytes : List ℕ) (written now : Option (List ℕ)) → NoTurnBy status at state buffered bytes → now ≡ written
+    → NoAnswerBy status at state buffered bytes written now
+stops_by BadSession at state buffered bytes written now why same = (why, same)
+stops_by Cut at state buffered bytes written now why same = (why, same)
+stops_by TooMuch at state buffered bytes written now why same = (why, same)
+stops_by ReadFault at state buffered bytes written now why same = same
+stops_by NoMemory at state buffered bytes written now why same = same
+stops_by Done at state buffered bytes written now why same = absurd why
+stops_by Refused at state buffered bytes written now why same = absurd why
+stops_by Usage at state buffered bytes written now why same = absurd why
+stops_by WriteFault at state buffered bytes written now why same = absurd why
+stops_by DoorFault at state buffered bytes written now why same = absurd why
+
+pub no_answer : (stop : Stop) (state : State) (buffered : Buffered) (known written now : Option (List ℕ)) → IfSome known (λ bytes. TurnStops stop state buffered bytes) → now ≡ written
+    → IfSome known (λ bytes. AnswerStops stop state buffered bytes written now)
+no_answer stop state buffered None written now why same = tt
+no_answer stop state buffered (Some bytes) written now why same = stops_by stop.status stop.at state buffered bytes written now why same

@@ -1,0 +1,60 @@
+use Rattle.std.proofs.Common.{refl, ap, arith, ◌∙◌}
+use Rattle.nm_session.specs.Received.{Received}
+use Rattle.nm_session.proofs.Sessions.{each, stands_first, stands_next, is_done, ends_stopped, ended_cause, is_complete}
+use Rattle.nm_session.proofs.stream.session.Goals as goal
+
+pub turns-init : goal.turns-init
+turns-init g c = record {
+  stands = stands_first c.in-Ok.input (g.S.Source.left c.args.source.now) (g.K.Sink.written c.args.sink.now) c.in-Ok.ensures;
+  fresh = ap (λ (i : Received). i.stopped) c.in-Ok.ensures;
+  reads_kept = omega arith;
+  writes_kept = omega arith;
+  source_beside = refl;
+  sink_beside = refl;
+}
+
+pub turns-preserved : goal.turns-preserved
+turns-preserved g c =
+    let before = c.turns.invariant in
+    let call = c.in-Ok-false.ensures in
+    record {
+      stands = each (g.S.Source.left c.args.source.now)
+          (λ stream stands. stands_next stream c.turns.input.buffered c.turn.new.input.buffered _ _ c.turns.state _ _ _ _ c.in-Ok-false.field-0 c.in-Ok-false.field-0-test stands call.turn call.goes_on.more call.goes_on.limit)
+          before.stands;
+      fresh = call.goes_on.fresh;
+      reads_kept = omega (arith, before.reads_kept, call.reads_kept);
+      writes_kept = omega (arith, before.writes_kept, call.writes_kept);
+      source_beside = call.source_beside ∙ before.source_beside;
+      sink_beside = call.sink_beside ∙ before.sink_beside;
+    }
+
+pub returns-in-Ok-true-clause-answers : goal.returns-in-Ok-true-clause-answers
+returns-in-Ok-true-clause-answers g c =
+    each (g.S.Source.left c.args.source.now)
+    (λ stream stands. is_done stream c.turns.input.buffered c.turn.new.input.buffered _ _ c.turns.state _ _ _ _ c.in-Ok-true.field-0 c.in-Ok-true.field-0-test stands c.in-Ok-true.ensures.turn)
+    c.turns.invariant.stands
+
+pub returns-in-Ok-true-clause-complete : goal.returns-in-Ok-true-clause-complete
+returns-in-Ok-true-clause-complete g c =
+    each (g.S.Source.left c.args.source.now)
+    (λ stream stands. is_complete stream _ _ _ _ _ _ _ tt
+    (is_done stream c.turns.input.buffered c.turn.new.input.buffered _ _ c.turns.state _ _ _ _ c.in-Ok-true.field-0 c.in-Ok-true.field-0-test stands c.in-Ok-true.ensures.turn))
+    c.turns.invariant.stands
+
+pub returns-in-Err-clause-answers : goal.returns-in-Err-clause-answers
+returns-in-Err-clause-answers g c =
+    each (g.S.Source.left c.args.source.now)
+    (λ stream stands. ends_stopped stream c.turns.input.buffered _ c.turns.state c.in-Err.stop _ _ _ _ _ _ _ stands c.in-Err.ensures.stop c.ended.ensures.ends)
+    c.turns.invariant.stands
+
+pub returns-in-Err-clause-complete : goal.returns-in-Err-clause-complete
+returns-in-Err-clause-complete g c =
+    let before = c.turns.invariant in
+    let call = c.in-Err.ensures in
+    each (g.S.Source.left c.args.source.now)
+    (λ stream stands. is_complete stream _ _ _ _ _ _ _
+    (ended_cause c.in-Err.stop c.ended.result _ _ (g.S.Source.faults c.args.source.now) (g.S.Source.faults c.turns.source) (g.S.Source.faults c.turn.new.source)
+    (g.K.Sink.faults c.args.sink.now) (g.K.Sink.faults c.turns.sink) (g.K.Sink.faults c.turn.new.sink) (g.K.Sink.faults c.ended.new.sink)
+    call.cause before.reads_kept before.writes_kept call.writes_kept c.ended.ensures.writes_kept c.ended.ensures.ends)
+    (ends_stopped stream c.turns.input.buffered _ c.turns.state c.in-Err.stop _ _ _ _ _ _ _ stands call.stop c.ended.ensures.ends))
+    before.stands

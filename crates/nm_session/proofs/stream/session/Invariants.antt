@@ -1,0 +1,23 @@
+-- In between two commands the session stands in its stream, and no fault is lost.
+use Rattle.std.proofs.Common.{◌≡◌, ◌-◌, ◌≤◌, None, IfSome}
+use Rattle.nm_session.proofs.Sessions.{Written}
+use Rattle.nm_session.specs.Limits.{longest_session}
+use Rattle.nm_session.proofs.stream.session.Given as goal
+
+abbrev pub invariant-turns : goal.invariant-turns
+invariant-turns g l =
+    let source = g.S.Source in
+    let sink = g.K.Sink in
+    record {
+      stands : IfSome (source.left l.fn.source) (λ stream.
+          Written stream l.input.buffered (source.left l.source) l.state (sink.written l.fn.sink) (sink.written l.sink));
+      fresh : l.input.stopped ≡ None;
+      reads_kept : source.faults l.fn.source ≤ source.faults l.source;
+      writes_kept : sink.faults l.fn.sink ≤ sink.faults l.sink;
+      source_beside : source.beside l.source ≡ source.beside l.fn.source;
+      sink_beside : sink.beside l.sink ≡ sink.beside l.fn.sink;
+    }
+
+-- how many bytes the session may still take
+abbrev pub decreases-turns : goal.decreases-turns
+decreases-turns g l = longest_session - l.input.buffered.given

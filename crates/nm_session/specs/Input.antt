@@ -1,0 +1,131 @@
+-- The lines and documents of a stream, over the bytes that still come.
+use Rattle.std.specs.Prelude.{◌≡◌, ℕ, ◌+◌, ◌-◌, ◌<◌, ◌≤◌, List, [], ◌∷◌, ◌++◌, length, take, Option, None, Some, position, IfSome, Result, Ok, Err, IfErr}
+use Rattle.std.specs.Io.KnownBytes.{prepend_known, Consumes}
+use Rattle.nm_base.specs.Faults.{IsRisen}
+use Rattle.nm_base.specs.declared.outcome.Status.{Status}
+use Rattle.nm_base.specs.declared.outcome.Status.TheVariants.{Done, Refused, Usage, ReadFault, WriteFault, NoMemory, BadSession, Cut, TooMuch, DoorFault}
+use Rattle.nm_reader.specs.Input.{IsDocumentOf}
+use Rattle.nm_reader.specs.Read.{read_due}
+use Rattle.nm_reader.specs.declared.error.ReadError.TheVariants as read_error
+use Rattle.nm_session.specs.Buffered.{Buffered}
+use Rattle.nm_session.specs.Limits.{longest_line, longest_session}
+use Rattle.nm_session.specs.Received.{Received}
+use Rattle.nm_session.specs.Stream.{is_line_feed, line_end}
+use Rattle.nm_session.specs.declared.body.Spelling.{Spelling}
+use Rattle.nm_session.specs.declared.body.Spelling.TheVariants.{Good, Bad}
+use Rattle.nm_session.specs.declared.stop.Stop.{Stop}
+
+-- the bytes that still come, where the source tells what it has left: those buffered, and then those left
+abbrev pub coming : Buffered → Option (List ℕ) → Option (List ℕ)
+coming buffered left = prepend_known buffered.ahead left
+
+-- the bytes that a session may still take of those that come
+abbrev pub in_session : Buffered → List ℕ → List ℕ
+in_session buffered bytes = take (longest_session - buffered.given) bytes
+
+-- the next line, which is no longer than a line may be and ends within the session
+pub record GivesLine (old new : Buffered) (before after : Option (List ℕ)) (line : List ℕ) : Type 0 where
+  pub short : length line ≤ longest_line
+  pub whole : position is_line_feed line ≡ None
+  pub taken : Consumes (coming old before) (coming new after) (line ++ 10 ∷ [])
+  pub given : new.given ≡ old.given + length line + 1
+  pub limit : new.given ≤ longest_session
+
+-- the next `len` bytes
+pub record GivesBody (old new : Buffered) (before after : Option (List ℕ)) (len : ℕ) (body : List ℕ) : Type 0 where
+  pub size : length body ≡ len
+  pub taken : Consumes (coming old before) (coming new after) body
+  pub given : new.given ≡ old.given + len
+  pub limit : new.given ≤ longest_session
+
+-- the model that the bytes state, with them, or their fault
+abbrev pub Spells : Spelling → List ℕ → Type 0
+Spells (Good document bytes) given = (bytes ≡ given) × (read_due given ≡ Ok document) × IsDocumentOf given document
+Spells (Bad fault) given = read_due given ≡ Err (read_error.Fault fault)
+
+-- the next `len` bytes, as a document
+pub record GivesSpelling (old new : Buffered) (before after : Option (List ℕ)) (len : ℕ) (spelling : Spelling) : Type 0 where
+  pub bytes : List ℕ
+  pub body : GivesBody old new before after len bytes
+  pub spells : Spells spelling bytes
+
+-- no line ends among the bytes that the session may still take, and these may still be a line's
+pub record HasNoLine (rest : List ℕ) : Type 0 where
+  pub short : length rest ≤ longest_line
+  pub none : line_end rest ≡ None
+
+-- more bytes come than a line may have, and no line ends among those that would be its own
+pub record IsLongLine (rest : List ℕ) : Type 0 where
+  pub long : longest_line < length rest
+  pub none : line_end rest ≡ None
+
+-- why no line was given
+abbrev pub NoLineBy : Status → ℕ → Buffered → Option (List ℕ) → Type 0
+NoLineBy BadSession at buffered left =
+    (at ≡ buffered.given) × IfSome (coming buffered left) (λ bytes. IsLongLine (in_session buffered bytes))
+NoLineBy TooMuch at buffered left =
+    IfSome (coming buffered left) (λ bytes. HasNoLine (in_session buffered bytes) × (longest_session ≤ buffered.given + length bytes))
+NoLineBy Cut at buffered left =
+    IfSome (coming buffered left) (λ bytes. HasNoLine (in_session buffered bytes) × (buffered.given + length bytes < longest_session))
+NoLineBy ReadFault at buffered left = Unit {0}
+NoLineBy NoMemory at buffered left = Unit {0}
+NoLineBy Done at buffered left = ⊥
+NoLineBy Refused at buffered left = ⊥
+NoLineBy Usage at buffered left = ⊥
+NoLineBy WriteFault at buffered left = ⊥
+NoLineBy DoorFault at buffered left = ⊥
+
+abbrev pub LineStops : Stop → Buffered → Option (List ℕ) → Type 0
+LineStops stop buffered left = NoLineBy stop.status stop.at buffered left
+
+-- why the `len` bytes of a document were not given
+abbrev pub NoBodyBy : Status → ℕ → Buffered → Option (List ℕ) → Type 0
+NoBodyBy TooMuch len buffered left =
+    IfSome (coming buffered left) (λ bytes. (length (in_session buffered bytes) < len) × (longest_session ≤ buffered.given + length bytes))
+NoBodyBy Cut len buffered left =
+    IfSome (coming buffered left) (λ bytes. (length (in_session buffered bytes) < len) × (buffered.given + length bytes < longest_session))
+NoBodyBy ReadFault len buffered left = Unit {0}
+NoBodyBy NoMemory len buffered left = Unit {0}
+NoBodyBy BadSession len buffered left = ⊥
+NoBodyBy Done len buffered left = ⊥
+NoBodyBy Refused len buffered left = ⊥
+NoBodyBy Usage len buffered left = ⊥
+NoBodyBy WriteFault len buffered left = ⊥
+NoBodyBy DoorFault len buffered left = ⊥
+
+abbrev pub BodyStops : Stop → ℕ → Buffered → Option (List ℕ) → Type 0
+BodyStops stop len buffered left = NoBodyBy stop.status len buffered left
+
+-- the statuses that an input can stop with. A place is that of a bad line, and 0 with any other status
+abbrev pub PlacedBy : Status → ℕ → Type 0
+PlacedBy BadSession at = Unit {0}
+PlacedBy ReadFault at = at ≡ 0
+PlacedBy NoMemory at = at ≡ 0
+PlacedBy Cut at = at ≡ 0
+PlacedBy TooMuch at = at ≡ 0
+PlacedBy Done at = ⊥
+PlacedBy Refused at = ⊥
+PlacedBy Usage at = ⊥
+PlacedBy WriteFault at = ⊥
+PlacedBy DoorFault at = ⊥
+
+abbrev pub IsInputStop : Stop → Type 0
+IsInputStop stop = PlacedBy stop.status stop.at
+
+-- an input that has stopped keeps its stop and its offset
+pub record StopsAt (old new : Received) (stop : Stop) : Type 0 where
+  pub kept : new.stopped ≡ Some stop
+  pub given : new.buffered.given ≡ old.buffered.given
+  pub placed : IsInputStop stop
+
+-- .. and answers it again, with nothing read
+pub record StopsAgain {T : Type 0} (earlier : Stop) (result : Result T Stop) (old new : Received) (before after : Option (List ℕ)) (reads_before reads_after : ℕ) : Type 0 where
+  pub again : result ≡ Err earlier
+  pub same : new ≡ old
+  pub unread : after ≡ before
+  pub faults : reads_after ≡ reads_before
+
+-- the count of a source's faults never falls, and a stop tells of a fault only where it rose, or it is an earlier one
+pub record CountsReads {T : Type 0} (stopped : Option Stop) (before after : ℕ) (result : Result T Stop) : Type 0 where
+  pub kept : before ≤ after
+  pub rose : stopped ≡ None → IfErr result (λ stop. stop.status ≡ ReadFault → IsRisen before after)

@@ -1,0 +1,94 @@
+// A store from the stream of its commands.
+ghost use Rattle.nm_base.specs.Faults.{IsRisen};
+ghost use Rattle.nm_session.specs.Input.{CountsReads, IsInputStop};
+ghost use Rattle.nm_session.specs.Opening as spec;
+ghost use Rattle.nm_session.specs.Stream.{outcome};
+ghost use Rattle.nm_session.specs.declared.turn.State.TheVariants as state_of;
+ghost use Rattle.nm_terms.specs.Due.{IsDue};
+ghost use Rattle.std.specs.Prelude.{◌≡◌, ◌≤◌, [], None, IfErr, IfSome, OnOk};
+
+use crate::input::Input;
+use crate::stop::Stop;
+use crate::taking::take_turn;
+use crate::turn::State;
+use nm_base::{NoMemory, Source, Status};
+use nm_version::Version;
+use std::alloc::Global;
+
+/// Why a stream opens no store.
+#[derive(Clone, Copy, Debug, PartialEq, Eq)]
+pub struct OpeningError {
+    pub status: Status,
+    /// Where the line begins that is no command, with `BadSession`; 0 with any other status.
+    pub at: u64,
+}
+
+impl From<Stop> for OpeningError {
+    ghost from_gives = { λ stop error. error ≡ spec.error_of stop };
+
+    fn from(stop: Stop) -> OpeningError {
+        OpeningError {
+            status: stop.status,
+            at: stop.at,
+        }
+    }
+}
+
+impl From<NoMemory> for OpeningError {
+    ghost from_gives = { λ _ error. error ≡ spec.no_memory };
+
+    fn from(_: NoMemory) -> OpeningError {
+        OpeningError {
+            status: Status::NoMemory,
+            at: 0,
+        }
+    }
+}
+
+/// The store that a session stream ends with. Its replies are dropped.
+///
+/// The error's status is `Refused` where the stream was read to its `end` line and no base was
+/// accepted, and else the one that [`session`](crate::session) ends with: `BadSession`, `Cut`,
+/// `TooMuch`, `ReadFault` or `NoMemory`.
+pub fn opening<S: Source>(alloc: Global, source: &mut S) -> Result<Version, OpeningError>
+    ensures due { IfSome (S.left source.old) (λ stream. IsDue spec.tells_no_ending result (spec.opening_of stream)) }
+    ensures complete { IfSome (S.left source.old) (λ stream. (IsRisen (S.faults source.old) (S.faults source.new) → ⊥)
+        → IsDue spec.wants_memory result (spec.opening_of stream)) }
+    ensures cause { IfErr result (λ error. spec.HasCause error (S.faults source.old) (S.faults source.new)) }
+    ensures reads_kept { S.faults source.old ≤ S.faults source.new }
+    ensures beside_stays { S.beside source.new ≡ S.beside source.old }
+{
+    let mut input = Input::new(alloc)?;
+    let mut state = State::Empty;
+    run_to_end(alloc, &mut input, &mut state, source)?;
+    match state {
+        State::Store(version) => Ok(version),
+        State::Empty => Err(OpeningError {
+            status: Status::Refused,
+            at: 0,
+        }),
+    }
+}
+
+/// Runs a whole stream from its beginning, and drops the replies.
+fn run_to_end<S: Source>(
+    alloc: Global,
+    input: &mut Input,
+    state: &mut State,
+    source: &mut S,
+) -> Result<(), Stop>
+    requires new { input.old ≡ record { buffered = record { ahead = []; given = 0 }; stopped = None } }
+    requires empty { state.old ≡ state_of.Empty }
+    ensures done { OnOk result (IfSome (S.left source.old) (λ stream. spec.IsDoneIn (outcome stream) state.new)) }
+    ensures stop { IfErr result (λ stop. IfSome (S.left source.old) (λ stream. spec.TellsEnding stop (outcome stream))) }
+    ensures placed { IfErr result (λ stop. IsInputStop stop) }
+    ensures counted { CountsReads None (S.faults source.old) (S.faults source.new) result }
+    ensures beside_stays { S.beside source.new ≡ S.beside source.old }
+{
+    'turns: loop {
+        let (_, is_last) = take_turn(alloc, input, state, source)?;
+        if is_last {
+            return Ok(());
+        }
+    }
+}
