@@ -21,8 +21,6 @@ mod place;
 mod reading;
 mod refusal;
 mod roles;
-#[cfg(test)]
-mod tests;
 mod texts;
 
 pub use error::ReadError;

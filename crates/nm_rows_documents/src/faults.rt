@@ -1,9 +1,8 @@
 //! Documents of every spelling: the models that they state, and the first faults of others.
-use crate::documents::document;
 use nm_ident::NoMemory;
 use nm_model::Document;
 use nm_reader::{Code, Fault, ReadError, read};
-use nm_samples::{EQUIPMENT, EQUIPMENT_WRITTEN, RENAMED};
+use nm_samples::{EQUIPMENT, EQUIPMENT_WRITTEN, RENAMED, full_model, joined};
 use nm_writer::{write_difference, write_full};
 use std::alloc::Global;
 use std::test::Fail;
@@ -35,14 +34,6 @@ const NAME: &[u8] = b"<cim:IdentifiedObject.name>";
 const END_OF_NAME: &[u8] = b"</cim:IdentifiedObject.name>\n";
 
 const END: &[u8] = b"</cim:Substation>\n</rdf:RDF>\n";
-
-pub fn joined(alloc: Global, parts: &[&[u8]]) -> Result<Vec<u8>, NoMemory> {
-    let mut text = Vec::new(alloc);
-    for part in parts {
-        text.extend_from_slice(part)?;
-    }
-    Ok(text)
-}
 
 /// The first fault of the text, or none.
 pub fn fault_of(alloc: Global, text: &[u8]) -> Result<Option<Fault>, NoMemory> {
@@ -222,8 +213,8 @@ const CLASSES_KEPT: &[u8] =
 #[test]
 fn the_least_class_names_an_object(rt: HostRuntime) -> Result<(), Fail> {
     let alloc = rt.alloc();
-    let text = document(alloc, &[CLASSES])?;
-    assert!(rt; canonical_of(alloc, &text)? == Some(document(alloc, &[CLASSES_KEPT])?));
+    let text = full_model(alloc, &[CLASSES])?;
+    assert!(rt; canonical_of(alloc, &text)? == Some(full_model(alloc, &[CLASSES_KEPT])?));
     Ok(())
 }
 

@@ -1,10 +1,9 @@
 //! Documents that state as much as is kept, and one thing more.
-use crate::documents::document;
-use crate::faults::{fault_of, joined};
+use crate::faults::fault_of;
 use nm_ident::NoMemory;
 use nm_model::LONGEST_DOCUMENT;
 use nm_reader::{Code, Fault};
-use nm_samples::RENAMED;
+use nm_samples::{RENAMED, full_model};
 use std::alloc::Global;
 use std::test::Fail;
 
@@ -20,7 +19,7 @@ fn repeated(alloc: Global, item: &[u8], count: u32) -> Result<Vec<u8>, NoMemory>
 /// A full model of so many of one header property, and nothing else.
 fn with_properties(alloc: Global, property: &[u8], count: u32) -> Result<Vec<u8>, NoMemory> {
     let properties = repeated(alloc, property, count)?;
-    document(alloc, &[&properties, b"</md:FullModel>\n"])
+    full_model(alloc, &[&properties, b"</md:FullModel>\n"])
 }
 
 #[test]
@@ -59,14 +58,12 @@ fn header_properties_are_counted_with_their_repeats(rt: HostRuntime) -> Result<(
 /// A difference that states so often that one resource is of one class.
 fn with_changes(alloc: Global, count: u32) -> Result<Vec<u8>, NoMemory> {
     let objects = repeated(alloc, b"<cim:A rdf:about=\"#a\"/>", count)?;
-    let parts = [
-        &RENAMED[492..849],
-        b"<dm:forwardDifferences>",
-        &objects,
-        b"</dm:forwardDifferences>",
-        &RENAMED[1537..1570],
-    ];
-    joined(alloc, &parts)
+    let mut text = RENAMED[492..849].to_vec(alloc)?;
+    text.extend_from_slice(b"<dm:forwardDifferences>")?;
+    text.extend_from_slice(&objects)?;
+    text.extend_from_slice(b"</dm:forwardDifferences>")?;
+    text.extend_from_slice(&RENAMED[1537..1570])?;
+    Ok(text)
 }
 
 #[test]
@@ -88,7 +85,7 @@ fn changes_are_counted_with_their_repeats(rt: HostRuntime) -> Result<(), Fail> {
 
 /// A document that ends in so many bytes of white space that it has this length.
 fn padded(alloc: Global, length: usize) -> Result<Vec<u8>, NoMemory> {
-    let mut text = document(alloc, &[b"</md:FullModel>\n"])?;
+    let mut text = full_model(alloc, &[b"</md:FullModel>\n"])?;
     text.resize(length, b' ')?;
     Ok(text)
 }
@@ -122,7 +119,7 @@ fn a_byte_more_is_too_much(rt: HostRuntime) -> Result<(), Fail> {
 #[test]
 fn a_longer_input_is_judged_by_its_pieces(rt: HostRuntime) -> Result<(), Fail> {
     let alloc = rt.alloc();
-    let mut text = document(alloc, &[b"</md:FullModel>\n"])?;
+    let mut text = full_model(alloc, &[b"</md:FullModel>\n"])?;
     text.push(0x01)?;
     text.resize(67_108_865, b' ')?;
     let code = Code::Piece;

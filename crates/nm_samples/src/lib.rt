@@ -1,9 +1,11 @@
 //! Sessions and documents that tests of several crates share, with what is written of them.
 #![tactic(auto)]
 
+mod documents;
 mod exports;
 mod sessions;
 
+pub use documents::{full_model, joined};
 pub use exports::{EQUIPMENT, EQUIPMENT_WRITTEN};
 pub use sessions::{
     ANOTHER_NAME, ANOTHER_NAME_REPLIES, BARE_BASE, BARE_BASE_REPLIES, FIRST_AND_LAST_DAY,

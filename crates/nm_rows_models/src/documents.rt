@@ -2,18 +2,11 @@
 use nm_canon::{CanonicalError, read_canonical};
 use nm_ident::NoMemory;
 use nm_model::{Document, Full};
-use nm_samples::{ANOTHER_NAME, BARE_BASE, NORTH, RENAMED};
+use nm_samples::{ANOTHER_NAME, BARE_BASE, NORTH, RENAMED, full_model};
 use nm_statement::Literal;
 use nm_writer::{write_document, write_full};
 use std::alloc::Global;
 use std::test::Fail;
-
-/// How the full models begin.
-const OPENING: &[u8] =
-    b"<?xml version=\"1.0\" encoding=\"UTF-8\"?>\n<rdf:RDF xmlns:rdf=\"http://www.w3.org/1999/02/22-rdf-syntax-ns#\" xmlns:md=\"http://iec.ch/TC57/61970-552/ModelDescription/1#\" xmlns:cim=\"http://iec.ch/TC57/2013/CIM-schema-cim16#\">\n<md:FullModel rdf:about=\"urn:uuid:10000000-0000-4000-8000-000000000001\">\n";
-
-/// How documents end.
-const CLOSING: &[u8] = b"</rdf:RDF>\n";
 
 /// A name of characters that are spelt by references, and of one outside the basic plane.
 const CHARACTERS: &[u8] =
@@ -33,16 +26,6 @@ const EQUIPMENT: &[u8] =
 
 /// The line that says when [`EQUIPMENT`] was made.
 const CREATED: &[u8] = b"<md:Model.created>2026-11-02T08:00:00Z</md:Model.created>\n";
-
-/// The document of a full model, from its header's properties on.
-pub fn document(alloc: Global, parts: &[&[u8]]) -> Result<Vec<u8>, NoMemory> {
-    let mut text = OPENING.to_vec(alloc)?;
-    for part in parts {
-        text.extend_from_slice(part)?;
-    }
-    text.extend_from_slice(CLOSING)?;
-    Ok(text)
-}
 
 /// The model that the document states, if it is canonical.
 pub fn read(alloc: Global, text: &[u8]) -> Result<Option<Document>, NoMemory> {
@@ -67,7 +50,7 @@ fn full_models_are_written_again(rt: HostRuntime) -> Result<(), Fail> {
     assert!(rt; is_written_again(alloc, &BARE_BASE[9..274])?);
     assert!(rt; is_written_again(alloc, &NORTH[9..471])?);
     for part in [CHARACTERS, EMPTY_NAME, TWO_CLASSES] {
-        let text = document(alloc, &[part])?;
+        let text = full_model(alloc, &[part])?;
         assert!(rt; is_written_again(alloc, text.as_slice())?);
     }
     Ok(())
@@ -94,8 +77,8 @@ pub fn full_of(model: Option<Document>) -> Option<Full> {
 #[test]
 fn a_time_of_creation_is_read_and_written(rt: HostRuntime) -> Result<(), Fail> {
     let alloc = rt.alloc();
-    let with_time = document(alloc, &[CREATED, EQUIPMENT])?;
-    let without_time = document(alloc, &[EQUIPMENT])?;
+    let with_time = full_model(alloc, &[CREATED, EQUIPMENT])?;
+    let without_time = full_model(alloc, &[EQUIPMENT])?;
     match full_of(read(alloc, with_time.as_slice())?) {
         Some(full) => {
             let mut full = full;

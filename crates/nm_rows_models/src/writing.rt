@@ -1,9 +1,9 @@
 //! How models are spelt: prefixes, groups, references and headers.
-use crate::documents::{document, full_of, is_written_again, read};
+use crate::documents::{full_of, is_written_again, read};
 use crate::models::BASE;
 use nm_ident::{Ids, NoMemory, Text, Texts};
 use nm_model::Header;
-use nm_samples::NORTH;
+use nm_samples::{NORTH, full_model};
 use nm_statement::Literal;
 use nm_writer::write_full;
 use std::alloc::Global;
@@ -57,7 +57,7 @@ fn spellings_are_written_again(rt: HostRuntime) -> Result<(), Fail> {
     let alloc = rt.alloc();
     assert!(rt; is_written_again(alloc, PREFIXES)?);
     assert!(rt; is_written_again(alloc, REFERENCES)?);
-    let groups = document(alloc, &[GROUPS])?;
+    let groups = full_model(alloc, &[GROUPS])?;
     assert!(rt; is_written_again(alloc, groups.as_slice())?);
     Ok(())
 }
@@ -108,8 +108,8 @@ fn header(alloc: Global) -> Result<Header, Fail> {
 #[test]
 fn all_properties_of_a_header_are_written(rt: HostRuntime) -> Result<(), Fail> {
     let alloc = rt.alloc();
-    let bare = document(alloc, &[LIMIT])?;
-    let text = document(alloc, &[HEADER, LIMIT])?;
+    let bare = full_model(alloc, &[LIMIT])?;
+    let text = full_model(alloc, &[HEADER, LIMIT])?;
     match full_of(read(alloc, bare.as_slice())?) {
         Some(full) => {
             let mut full = full;
