@@ -13,7 +13,7 @@ import uuid
 from dataclasses import dataclass, replace
 
 import documents
-from models import MOST_DOCUMENT, Difference, Full, Header, canonical, id_of, uuid_of, uuid_text
+from models import MOST_DOCUMENT, Difference, Full, Header, canonical, id_of, ident_of_about, uuid_of, uuid_text
 
 MOST_PROJECTS = 4_096
 MOST_COMMITS = 65_536
@@ -36,6 +36,9 @@ def report_line(statement) -> bytes:
     subject, (ns, local), (kind, value) = statement
     target = {0: lambda: b'"' + escaped(value) + b'"', 1: lambda: b"#" + id_of(value), 2: lambda: b"<" + escaped(value) + b">"}
     return b"#" + id_of(subject) + b" <" + escaped(ns + local) + b"> " + target[kind]()
+
+
+PARTS = (("pre", b"precondition"), ("rev", b"reverse"), ("fwd", b"forward"))
 
 
 @dataclass
@@ -165,6 +168,24 @@ class Store:
         count = len(self.replay(self.in_service(day))[0])
         return b"summary commits %d projects %d statements %d\n" % (self.number, len(self.projects), count)
 
+    def object(self, day: bytes, subject) -> bytes:
+        """The statements of a day with this subject."""
+        statements = sorted(s for s in self.replay(self.in_service(day))[0] if s[0] == subject)
+        return b"statements %d\n" % len(statements) + b"".join(report_line(s) + b"\n" for s in statements)
+
+    def timeline(self, subject) -> bytes:
+        """Where the base and the steps name a statement with this subject."""
+        steps = self.steps()
+        parts = [(step, name, getattr(step.change, part)) for step in steps for part, name in PARTS]
+        named = {*self.base.statements, *(s for _, _, part in parts for s in part)}
+        lines = []
+        for statement in sorted(s for s in named if s[0] == subject):
+            if statement in self.base.statements:
+                lines.append(b"base " + report_line(statement))
+            lines += [b" ".join((step.day, uuid_text(step.lineage[-1]), name, report_line(statement)))
+                      for step, name, part in parts if statement in part]
+        return b"lines %d\n" % len(lines) + b"".join(line + b"\n" for line in lines)
+
     def list_projects(self) -> bytes:
         rows = [b"%s %s %s\n" % (uuid_text(step.lineage[0]), step.day, uuid_text(step.lineage[-1])) for step in self.steps()]
         return b"projects %d\n" % len(rows) + b"".join(rows)
@@ -177,10 +198,11 @@ class Store:
 # ---------------------------------------------------------------- the session
 
 NUMERAL, DAY, ID = rb"(?P<length>0|[1-9][0-9]*)", rb"(?P<day>[0-9]{4}-[0-9]{2}-[0-9]{2})", rb"(?P<id>[0-9A-Fa-f-]{36})"
+ABOUT = rb"(?P<about>[!-~]+)"
 BASE = re.compile(rb"base " + NUMERAL)
 COMMANDS = [re.compile(line) for line in (
     rb"file " + DAY + b" " + NUMERAL, rb"revise " + ID + b" " + NUMERAL, rb"redate " + ID + b" " + DAY, rb"withdraw " + ID,
-    rb"assemble " + DAY, rb"projects", rb"log", rb"summary " + DAY)]
+    rb"assemble " + DAY, rb"object " + DAY + b" " + ABOUT, rb"timeline " + ABOUT, rb"projects", rb"log", rb"summary " + DAY)]
 
 
 def is_day(text: bytes) -> bool:
@@ -198,6 +220,7 @@ class Command:
     day: bytes = b""
     id: int | None = None
     length: int = 0
+    subject: tuple | None = None
 
 
 def command_of(line: bytes, has_base: bool):
@@ -208,9 +231,10 @@ def command_of(line: bytes, has_base: bool):
         if found := form.fullmatch(line):
             parts = found.groupdict()
             command = Command(line.split(b" ")[0], parts.get("day") or b"", uuid_of(parts.get("id") or b""),
-                              int(parts.get("length") or 0))
+                              int(parts.get("length") or 0), ident_of_about(parts.get("about") or b""))
             good = (command.length <= MOST_DOCUMENT and (not command.day or is_day(command.day))
-                    and ("id" not in parts or command.id is not None))
+                    and ("id" not in parts or command.id is not None)
+                    and ("about" not in parts or command.subject is not None))
             return command if good else None
     return None
 
@@ -222,6 +246,10 @@ def answer(store: Store, command: Command) -> bytes:
         return b"document %d\n" % len(document) + document
     if command.word == b"summary":
         return store.summary(command.day)
+    if command.word == b"object":
+        return store.object(command.day, command.subject)
+    if command.word == b"timeline":
+        return store.timeline(command.subject)
     return store.list_projects() if command.word == b"projects" else store.list_log()
 
 

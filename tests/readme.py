@@ -2,22 +2,14 @@
 
     python3 tests/readme.py write      writes the blocks anew
 """
-import os
 import re
-import subprocess
 import sys
 
-from harness import NM, TESTS, check, finish
+from harness import check, finish
+from shown import ROOT, output
 
-ROOT = TESTS.parent
 PAGES = [ROOT / "README.md", *sorted((ROOT / "docs").glob("*.md"))]
 BLOCK = re.compile(r"^```\n\$ (.*)\n((?:(?!```).*\n)*)```$", re.M)
-
-
-def output(command: str) -> str:
-    ended = subprocess.run(["bash", "-c", command.replace("crates/nm/out/nm", '"$NM"')], cwd=ROOT,
-                           env={**os.environ, "NM": NM}, stdout=subprocess.PIPE, text=True, timeout=60)
-    return ended.stdout
 
 
 def main() -> None:

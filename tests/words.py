@@ -4,12 +4,14 @@ import subprocess
 
 from harness import NM, check, finish
 
-USAGE = b"usage: nm session | canon | check\n"
+USAGE = b"usage: nm session | canon | check | gen N SEED\n"
 GIVEN = b"end\n"
 
 for words in ([], [""], ["Session"], ["session", ""], ["session", "extra"], ["session", "--help"], ["--help"], ["-h"],
               ["--version"], ["end"], ["session "], ["sessions"], ["sessio"], ["canon", "examples/base.xml"], ["check", ""], ["Check"],
-              ["canonical"], ["chec"], ["canon", "check"], ["gen", "20", "7"],
+              ["canonical"], ["chec"], ["canon", "check"], ["gen"], ["gen", "20"], ["gen", "20", "7", "7"], ["Gen", "20", "7"], ["gen", "", "7"],
+              ["gen", "20", ""], ["gen", "0", "7"], ["gen", "2001", "7"], ["gen", "020", "7"], ["gen", "20", "07"], ["gen", "+20", "7"],
+              ["gen", "20", "-7"], ["gen", "20", "4294967296"], ["gen", "20", "18446744073709551623"], ["gen", "20 ", "7"], ["gen", "20 7"],
               ["serve", "8080", "1", "1"], [b"session\xff"], ["session", b"\xff"]):
     reading, writing = os.pipe()
     os.write(writing, GIVEN)
