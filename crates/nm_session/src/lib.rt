@@ -16,8 +16,7 @@ mod start;
 mod stop;
 mod stream;
 mod taking;
-#[cfg(test)]
-mod tests;
+mod threads;
 mod turn;
 mod word;
 

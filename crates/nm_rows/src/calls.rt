@@ -1,22 +1,9 @@
-// Each public call once, with memory enough. What it answers is proved.
-use super::*;
+//! Each public call of a session once, with memory enough. What it answers is proved.
 use nm_base::{MemorySink, MemorySource, Status};
+use nm_session::{Body, Input, Spelling, State, Word, opening, query, refused, session, step};
 use nm_version::Refusal;
 use std::alloc::Global;
 use std::test::Fail;
-
-fn crosses_threads<T: Send + Sync>() {}
-
-#[test]
-fn values_cross_threads() {
-    crosses_threads::<State>();
-    crosses_threads::<Body>();
-    crosses_threads::<Word>();
-    crosses_threads::<Reply>();
-    crosses_threads::<Input>();
-    crosses_threads::<Stop>();
-    crosses_threads::<OpeningError>();
-}
 
 /// A base with a header alone.
 const BASE: &[u8] =
