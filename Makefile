@@ -17,6 +17,7 @@ test:
 
 bench: $(NM)
 	python3 bench/reading.py
+	python3 bench/documents.py
 	python3 bench/commits.py
 
 ifdef PREFIX
