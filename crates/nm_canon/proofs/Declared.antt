@@ -23,7 +23,7 @@ use Rattle.nm_writer.proofs.Groups.{every-filter, every-subjects_of}
 use Rattle.nm_canon.proofs.Classes.{class_of-is, element_of-other}
 use Rattle.nm_canon.proofs.Prefixes.{IsDeclared}
 use Rattle.nm_writer.proofs.Namespaces.{has, has-rising_texts}
-use Rattle.nm_reader.specs.declared.opened.Declaration.{Declaration}
+use Rattle.nm_reader.specs.Opened.{Declaration}
 use Rattle.nm_canon.proofs.Documents.{each_sound, every_weaker, every-properties_of, object_sound, predicate_kept, subject_kept}
 use Rattle.nm_canon.proofs.Objects.{CanBeTold, IsToldOf}
 use Rattle.nm_canon.proofs.Prefixes.{Means, root_scope}

@@ -22,7 +22,7 @@ use Rattle.nm_model.specs.Sound.{is_sound_header, is_sound_property}
 use Rattle.nm_model.specs.declared.header.Header.{Header}
 use Rattle.nm_piece.specs.declared.piece.QName.{QName}
 use Rattle.nm_piece.specs.Name.{is_qname}
-use Rattle.nm_reader.specs.declared.opened.Declaration.{Declaration}
+use Rattle.nm_reader.specs.Opened.{Declaration}
 use Rattle.nm_reader.specs.Blocks.{Blocks, Element, End}
 use Rattle.nm_text.specs.Characters.{is_text}
 use Rattle.nm_text.specs.Utf8.{place_after}

@@ -32,7 +32,7 @@ use Rattle.nm_reader.specs.Model.{header_of, last_of, link_for, links_of, text_f
 use Rattle.nm_reader.specs.declared.fact.Fact.TheVariants.{Links, Tells as TellsText}
 use Rattle.nm_reader.specs.declared.fact.TextProperty.TheVariants.{Created, ScenarioTime, Version, Description, Authority, Profile}
 use Rattle.nm_reader.specs.declared.fact.LinkProperty.TheVariants.{DependentOn, Supersedes}
-use Rattle.nm_reader.specs.declared.opened.Declaration.{Declaration}
+use Rattle.nm_reader.specs.Opened.{Declaration}
 use Rattle.nm_reader.specs.Place.{role_of}
 use Rattle.nm_reader.specs.declared.place.Role.TheVariants.{HeaderLink, HeaderText}
 use Rattle.nm_reader.specs.declared.place.Place.TheVariants.{InHeader}

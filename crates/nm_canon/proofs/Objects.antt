@@ -20,7 +20,7 @@ use Rattle.nm_reader.specs.Meaning.{about_name, are_allowed, id_name, identity_o
 use Rattle.nm_reader.specs.declared.fact.Fact.{Fact}
 use Rattle.nm_reader.specs.declared.fact.Part.{Part}
 use Rattle.nm_reader.specs.declared.fact.Fact.TheVariants.{States}
-use Rattle.nm_reader.specs.declared.opened.Declaration.{Declaration}
+use Rattle.nm_reader.specs.Opened.{Declaration}
 use Rattle.nm_reader.specs.Namespaces.{Given, are_spelt_once, given_by, has_declared_prefixes, scope_inside}
 use Rattle.nm_reader.specs.declared.place.Place.{Place}
 use Rattle.nm_reader.specs.Place.{description_name, is_foreign, object_role, role_of}

@@ -13,7 +13,7 @@ use Rattle.std.specs.Str.Parse.{digits_value}
 use Rattle.nm_ident.proofs.Idents.{list_all-weaker}
 use Rattle.nm_ident.specs.Name.{is_name, continues_name, rdf_namespace, md_namespace, dm_namespace}
 use Rattle.nm_terms.specs.Bytes.{same_text}
-use Rattle.nm_reader.specs.declared.opened.Declaration.{Declaration}
+use Rattle.nm_reader.specs.Opened.{Declaration}
 use Rattle.nm_reader.specs.Namespaces.{declared, namespace_of}
 use Rattle.nm_writer.specs.Namespaces.{cim_place, is_rdf, numbered_prefix, prefix_at, prefix_of}
 

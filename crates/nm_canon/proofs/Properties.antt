@@ -29,7 +29,7 @@ use Rattle.nm_reader.specs.declared.fact.LinkProperty.{LinkProperty}
 use Rattle.nm_reader.specs.declared.fact.Part.{Part}
 use Rattle.nm_reader.specs.declared.fact.TextProperty.{TextProperty}
 use Rattle.nm_reader.specs.declared.fact.Fact.TheVariants.{Links, States, Tells as TellsText}
-use Rattle.nm_reader.specs.declared.opened.Declaration.{Declaration}
+use Rattle.nm_reader.specs.Opened.{Declaration}
 use Rattle.nm_reader.specs.Namespaces.{element_name, or_empty}
 use Rattle.nm_reader.specs.declared.place.Owner.{Owner}
 use Rattle.nm_reader.specs.declared.place.Place.{Place}

@@ -7,7 +7,7 @@ use Rattle.nm_terms.specs.Bytes.{same_text}
 use Rattle.nm_piece.specs.declared.piece.Attribute.{Attribute}
 use Rattle.nm_piece.specs.declared.piece.QName.{QName}
 use Rattle.nm_reader.specs.Meaning.{only_inside}
-use Rattle.nm_reader.specs.declared.opened.Declaration.{Declaration}
+use Rattle.nm_reader.specs.Opened.{Declaration}
 use Rattle.nm_reader.specs.Namespaces.{are_spelt_once, declaration_of, given, has_declared_prefix, same_spelling}
 use Rattle.nm_reader.specs.Place.{root_name}
 use Rattle.nm_reader.specs.declared.place.Place.TheVariants.{AfterRoot, BeforeRoot, InRoot}

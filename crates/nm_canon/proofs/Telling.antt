@@ -8,7 +8,7 @@ use Rattle.nm_reader.specs.declared.counts.Counts.{Counts}
 use Rattle.nm_reader.specs.declared.meaning.Meaning.{Meaning}
 use Rattle.nm_reader.specs.Meaning.{are_allowed, counted_by, has_short_iris, inside_of, listed, meaning_of, told_at_end, told_by}
 use Rattle.nm_reader.specs.declared.fact.Fact.{Fact}
-use Rattle.nm_reader.specs.declared.opened.Declaration.{Declaration}
+use Rattle.nm_reader.specs.Opened.{Declaration}
 use Rattle.nm_reader.specs.Namespaces.{Given, are_spelt_once, element_name, given_by, has_declared_prefixes, has_namespace, scope_inside}
 use Rattle.nm_reader.specs.declared.place.Place.{Place}
 use Rattle.nm_reader.specs.declared.place.Role.{Role}

@@ -21,7 +21,7 @@ use Rattle.nm_reader.specs.declared.fact.Part.{Part}
 use Rattle.nm_reader.specs.declared.fact.Fact.TheVariants.{Heads, States}
 use Rattle.nm_reader.specs.declared.fact.Kind.TheVariants.{Full as FullKind, Difference as DifferenceKind}
 use Rattle.nm_reader.specs.declared.fact.Part.TheVariants.{Whole, Preconditions, Forward, Reverse}
-use Rattle.nm_reader.specs.declared.opened.Declaration.{Declaration}
+use Rattle.nm_reader.specs.Opened.{Declaration}
 use Rattle.nm_reader.specs.Place.{role_of}
 use Rattle.nm_reader.specs.declared.place.Place.TheVariants.{AfterRoot, BeforeRoot, InBody, InHeader, InRest, InRoot, InSection}
 use Rattle.nm_reader.specs.declared.place.Role.TheVariants.{ModelHeader, SectionElement}

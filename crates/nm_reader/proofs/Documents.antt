@@ -4,7 +4,7 @@ use Rattle.std.proofs.lemmas.List.{append-nil}
 use Rattle.nm_model.specs.declared.document.Document.{Document}
 use Rattle.nm_reader.specs.Blocks.{Blocks, fits, counted, pieces_of, place_after, told}
 use Rattle.nm_reader.specs.Context.{Context, after, after_all, beginning, is_empty, is_whole}
-use Rattle.nm_reader.specs.declared.opened.Opened.{Opened}
+use Rattle.nm_reader.specs.Opened.{Opened}
 use Rattle.nm_piece.specs.Cutting.{Placed}
 use Rattle.nm_reader.specs.Cutting.{Cutting, Rest, Spelt, Left, Ended, Unfinished, NoPiece, More, piece_placed, pieces_cut}
 use Rattle.nm_reader.specs.Document.{IsDocument, States, is_read_encoding, is_read_prolog, prolog}

@@ -34,7 +34,7 @@ use Rattle.nm_reader.specs.declared.fault.Code.{Code}
 use Rattle.nm_reader.specs.declared.fault.Code.TheVariants as code
 use Rattle.nm_reader.specs.declared.judging.Judged.{Judged}
 use Rattle.nm_reader.specs.declared.meaning.Meaning.{Meaning}
-use Rattle.nm_reader.specs.declared.opened.Opened.{Opened}
+use Rattle.nm_reader.specs.Opened.{Opened}
 use Rattle.nm_reader.specs.declared.place.Place.{Place}
 use Rattle.nm_reader.specs.declared.place.Place.TheVariants.{BeforeRoot, InRoot, InHeader, InBody, InRest, InSection, InObject, InLiteral, InLink, InSkipped, AfterRoot}
 use Rattle.nm_reader.specs.declared.place.Role.{Role}

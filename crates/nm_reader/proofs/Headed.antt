@@ -5,7 +5,7 @@ use Rattle.nm_ident.specs.QualifiedName.{QualifiedName}
 use Rattle.nm_reader.specs.Blocks.{Blocks, End, Skip, Text, Empty, Element, fits, place_after, tag_in, told}
 use Rattle.nm_reader.specs.Meaning.{are_allowed, has_short_iris, header_meaning, inside_of, meaning_of, model_of, told_by}
 use Rattle.nm_reader.specs.Namespaces.{Given, are_spelt_once, has_declared_prefixes, has_namespace, same_name, scope_inside}
-use Rattle.nm_reader.specs.declared.opened.Declaration.{Declaration}
+use Rattle.nm_reader.specs.Opened.{Declaration}
 use Rattle.nm_piece.specs.declared.piece.Attribute.{Attribute}
 use Rattle.nm_piece.specs.declared.piece.QName.{QName}
 use Rattle.nm_reader.specs.Place.{dm, headers, md, role_in, root_name}

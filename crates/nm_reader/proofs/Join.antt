@@ -3,12 +3,12 @@ use Rattle.std.proofs.Common.{◌≡◌, ℕ, List, [], ◌∷◌, ◌++◌, Boo
 use Rattle.std.proofs.lemmas.List.{append-nil}
 use Rattle.nm_reader.specs.Blocks.{Blocks, End, Skip, Text, Empty, Element, counted, fits, pieces_of, place_after, tag_in, told}
 use Rattle.nm_reader.specs.Context.{Context, after, after_all, entered, left, scope_in, tag_at}
-use Rattle.nm_reader.specs.declared.opened.Opened.{Opened}
+use Rattle.nm_reader.specs.Opened.{Opened}
 use Rattle.nm_reader.specs.Limits.{nothing, plus}
 use Rattle.nm_reader.specs.declared.counts.Counts.{Counts}
 use Rattle.nm_reader.specs.Meaning.{told_at_end}
 use Rattle.nm_reader.specs.Namespaces.{scope_inside}
-use Rattle.nm_reader.specs.declared.opened.Declaration.{Declaration}
+use Rattle.nm_reader.specs.Opened.{Declaration}
 use Rattle.nm_piece.specs.declared.piece.Attribute.{Attribute}
 use Rattle.nm_piece.specs.declared.piece.Piece.{Piece}
 use Rattle.nm_piece.specs.declared.piece.QName.{QName}

@@ -19,7 +19,7 @@ use Rattle.nm_reader.specs.Namespaces.{are_spelt_once, has_declared_prefixes, ha
 use Rattle.nm_reader.specs.Rules.{code_at}
 use Rattle.nm_reader.specs.Tag.{Tag, behind_tag, counted_by_tag, element_of, given_of, inside_of_tag, is_taken, meaning_of_tag, role_of_tag, scope_of, told_by_tag}
 use Rattle.nm_reader.specs.Texts.{may_end, takes_text, with_text}
-use Rattle.nm_reader.specs.declared.opened.Opened.{Opened}
+use Rattle.nm_reader.specs.Opened.{Opened}
 use Rattle.nm_reader.specs.declared.place.Owner.TheVariants.{OfModel, OfSubject}
 use Rattle.nm_reader.specs.declared.place.Place.{Place}
 use Rattle.nm_reader.specs.declared.place.Place.TheVariants.{BeforeRoot, InRoot, InHeader, InBody, InRest, InSection, InObject, InLiteral, InLink, InSkipped, AfterRoot}

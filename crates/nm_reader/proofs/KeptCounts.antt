@@ -27,7 +27,7 @@ use Rattle.nm_reader.specs.declared.fact.Kind.TheVariants.{Full, Difference}
 use Rattle.nm_reader.specs.declared.fact.LinkProperty.{LinkProperty}
 use Rattle.nm_reader.specs.declared.fact.Part.{Part}
 use Rattle.nm_reader.specs.declared.fact.TextProperty.{TextProperty}
-use Rattle.nm_reader.specs.declared.opened.Opened.{Opened}
+use Rattle.nm_reader.specs.Opened.{Opened}
 use Rattle.nm_reader.specs.declared.place.Owner.{Owner}
 use Rattle.nm_reader.specs.declared.place.Owner.TheVariants.{OfModel, OfSubject}
 use Rattle.nm_reader.specs.declared.place.Place.{Place}

@@ -28,7 +28,7 @@ use Rattle.nm_reader.specs.declared.fact.LinkProperty.{LinkProperty}
 use Rattle.nm_reader.specs.declared.fact.Part.{Part}
 use Rattle.nm_reader.specs.declared.fact.TextProperty.{TextProperty}
 use Rattle.nm_reader.specs.declared.meaning.Meaning.{Meaning}
-use Rattle.nm_reader.specs.declared.opened.Declaration.{Declaration}
+use Rattle.nm_reader.specs.Opened.{Declaration}
 use Rattle.nm_reader.specs.declared.place.Owner.{Owner}
 use Rattle.nm_reader.specs.declared.place.Owner.TheVariants.{OfModel, OfSubject}
 use Rattle.nm_reader.specs.declared.place.Place.{Place}

@@ -3,7 +3,7 @@ use Rattle.std.proofs.Common.{◌≡◌, ◌≤◌, ℕ, ◌+◌, List, [], ◌�
 use Rattle.std.proofs.lemmas.Bool.Decides.{nat_tests}
 use Rattle.nm_reader.specs.Blocks.{pieces_of}
 use Rattle.nm_reader.specs.Context.{Context, after, entered, is_whole, left, tag_at}
-use Rattle.nm_reader.specs.declared.opened.Opened.{Opened}
+use Rattle.nm_reader.specs.Opened.{Opened}
 use Rattle.nm_reader.specs.Document.{is_read_encoding}
 use Rattle.nm_model.specs.Limits.{most_changes, most_dependencies, most_profiles, most_statements, most_superseded}
 use Rattle.nm_reader.specs.Limits.{is_within_limits, plus}

@@ -3,8 +3,8 @@ use Rattle.std.proofs.Common.{◌≡◌, ℕ, List, [], ◌∷◌, ◌++◌, Boo
 use Rattle.std.proofs.lemmas.List.{take_all}
 use Rattle.nm_reader.specs.Context.{scope_in}
 use Rattle.nm_reader.specs.Namespaces.{declared, same_prefix}
-use Rattle.nm_reader.specs.declared.opened.Declaration.{Declaration}
-use Rattle.nm_reader.specs.declared.opened.Opened.{Opened}
+use Rattle.nm_reader.specs.Opened.{Declaration}
+use Rattle.nm_reader.specs.Opened.{Opened}
 
 first_if : (same : Bool) (namespace found : List ℕ) (others more : Option (List ℕ)) → (others ≡ Some found → more ≡ Some found)
     → (if same then Some namespace else others) ≡ Some found → (if same then Some namespace else more) ≡ Some found

@@ -2,7 +2,7 @@
 use Rattle.std.proofs.Common.{◌≡◌, ℕ, List, [], ◌∷◌, ◌++◌, Bool, true, false, ◌&&◌, not, Option, is_none, refl, sym, ap, subst, ◌∙◌, append_assoc, arith}
 use Rattle.nm_reader.specs.Blocks.{Blocks, End, Skip, Text, Empty, Element, pieces_of}
 use Rattle.nm_reader.specs.Context.{Context, after, after_all, left, left_behind}
-use Rattle.nm_reader.specs.declared.opened.Opened.{Opened}
+use Rattle.nm_reader.specs.Opened.{Opened}
 use Rattle.nm_piece.specs.declared.piece.Attribute.{Attribute}
 use Rattle.nm_piece.specs.declared.piece.Piece.{Piece}
 use Rattle.nm_piece.specs.declared.piece.QName.{QName}

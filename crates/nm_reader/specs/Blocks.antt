@@ -4,7 +4,7 @@ use Rattle.nm_reader.specs.Limits.{nothing, plus}
 use Rattle.nm_reader.specs.declared.counts.Counts.{Counts}
 use Rattle.nm_reader.specs.Meaning.{told_at_end}
 use Rattle.nm_reader.specs.Namespaces.{scope_inside}
-use Rattle.nm_reader.specs.declared.opened.Declaration.{Declaration}
+use Rattle.nm_reader.specs.Opened.{Declaration}
 use Rattle.nm_piece.specs.declared.piece.Attribute.{Attribute}
 use Rattle.nm_piece.specs.declared.piece.Piece.{Piece}
 use Rattle.nm_piece.specs.declared.piece.QName.{QName}

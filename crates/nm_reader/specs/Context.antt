@@ -5,7 +5,7 @@ use Rattle.std.specs.List.{flat_map}
 use Rattle.nm_reader.specs.Limits.{nothing, plus}
 use Rattle.nm_reader.specs.Meaning.{told_at_end}
 use Rattle.nm_reader.specs.Namespaces.{declared_by}
-use Rattle.nm_reader.specs.declared.opened.Declaration.{Declaration}
+use Rattle.nm_reader.specs.Opened.{Declaration}
 use Rattle.nm_piece.specs.declared.piece.Attribute.{Attribute}
 use Rattle.nm_piece.specs.declared.piece.Piece.{Piece}
 use Rattle.nm_piece.specs.declared.piece.QName.{QName}
@@ -16,7 +16,7 @@ use Rattle.nm_reader.specs.declared.fact.Fact.{Fact}
 use Rattle.nm_reader.specs.declared.place.Place.{Place}
 use Rattle.nm_reader.specs.declared.place.Place.TheVariants.{BeforeRoot}
 use Rattle.nm_reader.specs.declared.counts.Counts.{Counts}
-use Rattle.nm_reader.specs.declared.opened.Opened.{Opened}
+use Rattle.nm_reader.specs.Opened.{Opened}
 
 pub record Context : Type 0 where
   -- innermost first

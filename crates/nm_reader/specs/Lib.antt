@@ -3,6 +3,8 @@ pub mod Limits
 pub mod Namespaces
 pub mod Model
 pub mod Place
+pub mod Opened
+pub mod Lent
 pub mod Leading
 pub mod Meaning
 pub mod Tag

@@ -6,7 +6,7 @@ use Rattle.nm_terms.specs.Bytes.{same_text}
 use Rattle.nm_ident.specs.QualifiedName.{QualifiedName}
 use Rattle.nm_piece.specs.declared.piece.Attribute.{Attribute}
 use Rattle.nm_piece.specs.declared.piece.QName.{QName}
-use Rattle.nm_reader.specs.declared.opened.Declaration.{Declaration}
+use Rattle.nm_reader.specs.Opened.{Declaration}
 
 abbrev pub same_prefix : Option (List ℕ) → Option (List ℕ) → Bool
 same_prefix None None = true

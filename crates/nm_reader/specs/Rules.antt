@@ -1,7 +1,7 @@
 -- The rules on documents, in their order: where each applies, and the code that it gives.
 use Rattle.std.specs.Prelude.{ℕ, List, [], ◌∷◌, ◌++◌, length, Bool, true, false, ◌&&◌, ◌||◌, not, nat_le, codes, if◌then◌else◌, Option, None, Some, is_none, is_some}
 use Rattle.nm_reader.specs.Context.{Context, is_whole, tag_at}
-use Rattle.nm_reader.specs.declared.opened.Opened.{Opened}
+use Rattle.nm_reader.specs.Opened.{Opened}
 use Rattle.nm_reader.specs.Cutting.{Here, Spelt, Left, Ended, Unfinished, NoPiece, More}
 use Rattle.nm_reader.specs.Document.{is_read_encoding}
 use Rattle.nm_statement.specs.Limits.{longest_literal}

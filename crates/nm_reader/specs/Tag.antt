@@ -3,7 +3,7 @@ use Rattle.std.specs.Prelude.{List, Bool, ◌&&◌, Option, is_some}
 use Rattle.nm_ident.specs.QualifiedName.{QualifiedName}
 use Rattle.nm_reader.specs.Meaning.{are_allowed, counted_by, has_short_iris, inside_of, meaning_of, told_by}
 use Rattle.nm_reader.specs.Namespaces.{Given, are_spelt_once, element_name, given_by, has_declared_prefixes, has_namespace, scope_inside}
-use Rattle.nm_reader.specs.declared.opened.Declaration.{Declaration}
+use Rattle.nm_reader.specs.Opened.{Declaration}
 use Rattle.nm_piece.specs.declared.piece.Attribute.{Attribute}
 use Rattle.nm_piece.specs.declared.piece.QName.{QName}
 use Rattle.nm_reader.specs.Place.{place_behind, role_of}

@@ -14,7 +14,7 @@ use Rattle.nm_reader.specs.Cutting.{Spelt}
 use Rattle.nm_reader.specs.Rules.{code_at}
 use Rattle.nm_reader.specs.declared.fault.Code.{Code}
 use Rattle.nm_reader.specs.declared.fault.Code.TheVariants as code
-use Rattle.nm_reader.specs.declared.opened.Opened.{Opened}
+use Rattle.nm_reader.specs.Opened.{Opened}
 use Rattle.nm_reader.specs.declared.place.Place.{Place}
 use Rattle.nm_reader.specs.declared.place.Place.TheVariants.{InLiteral}
 use Rattle.nm_reader.specs.declared.place.Role.{Role}
@@ -24,7 +24,7 @@ use Rattle.nm_reader.specs.Limits.{is_within_limits, plus}
 use Rattle.nm_reader.specs.Meaning.{are_allowed, has_short_iris, listed, told_by}
 use Rattle.nm_reader.specs.Place.{place_behind}
 use Rattle.nm_piece.specs.declared.piece.QName.{QName}
-use Rattle.nm_reader.specs.declared.opened.Declaration.{Declaration}
+use Rattle.nm_reader.specs.Opened.{Declaration}
 use Rattle.nm_reader.specs.Namespaces.{are_spelt_once, has_declared_prefixes, has_namespace}
 use Rattle.nm_reader.specs.Rules.{is_misplaced_text, passes_literal, role_judged}
 use Rattle.nm_reader.specs.Shape.{limit_code, or_code, shape_code, value_code}

@@ -11,8 +11,8 @@ ghost use Rattle.std.specs.Prelude.{◌≡◌, ◌++◌, ◌∷◌, IfOk, codes,
 use crate::namespaces::{XML_NAMESPACE, attribute_namespace, is_declaration};
 use crate::opened::{Declarations, Opened};
 use crate::place::Role;
+use crate::tag::TagAttribute;
 use nm_ident::{NoMemory, RDF_NAMESPACE};
-use nm_piece::Attribute;
 use std::alloc::Global;
 
 /// An attribute that is no declaration: its namespace, which is empty where it has none, its local
@@ -34,12 +34,12 @@ pub enum Allowed {
 }
 
 /// The attributes of a tag that are no declarations.
-pub fn given_by<'a>(
+pub fn given_by<'a, 'b>(
     alloc: Global,
-    own: &'a Declarations,
-    elements: &'a [Opened],
-    attributes: &'a [Attribute],
-) -> Result<Vec<GivenAttribute<'a>>, NoMemory>
+    own: &'b Declarations<'a>,
+    elements: &'b [Opened<'a>],
+    attributes: &'b [TagAttribute<'a>],
+) -> Result<Vec<GivenAttribute<'b>>, NoMemory>
     ensures { IfOk result (λ given. all_seen given.items ≡ given_by_of (own.now ++ scope_in elements.now) attributes.now) }
 {
     let mut given = Vec::new(alloc);
@@ -47,9 +47,9 @@ pub fn given_by<'a>(
     while let [attribute, others @ ..] = rest {
         if !is_declaration(attribute) {
             given.push(GivenAttribute {
-                ns: attribute_namespace(own, elements, &attribute.name.prefix),
-                local: attribute.name.local.as_slice(),
-                value: attribute.value.as_slice(),
+                ns: attribute_namespace(own, elements, attribute.name.prefix),
+                local: attribute.name.local,
+                value: attribute.value(),
             })?;
         }
         rest = others;

@@ -23,22 +23,23 @@ use crate::fault::Code;
 use crate::judging::{Judged, judge, place_behind};
 use crate::meaning::Meaning;
 use crate::names::Names;
-use crate::namespaces::{declared_by, is_spelt};
+use crate::namespaces::{declared_by, same_spelling};
 use crate::opened::{Declarations, Opened};
 use crate::place::Place;
 use crate::refusal::Refusal;
+use crate::tag::{TagAttribute, attributes_of};
 use crate::texts::{is_after_root, may_end, told_at_end, with_text};
 use nm_ident::NoMemory;
 use nm_model::Document;
-use nm_piece::{Attribute, QName, RawName, RawText, Token};
+use nm_piece::{RawName, RawText, Token};
 use std::alloc::Global;
 use std::marker::Model;
 use std::mem;
 
 /// What the pieces so far leave behind them.
 #[derive(Drop)]
-pub struct Reader {
-    elements: Vec<Opened>,
+pub struct Reader<'a> {
+    elements: Vec<Opened<'a>>,
     place: Place,
     told: Vec<Fact>,
     counted: Counts,
@@ -47,7 +48,7 @@ pub struct Reader {
     names: Names,
 }
 
-impl Model for Reader {
+impl<'a> Model for Reader<'a> {
     ghost use Rattle.std.specs.Prelude.{IsTrue};
     ghost use Rattle.nm_reader.specs.Context.{Context};
     ghost use Rattle.nm_reader.specs.Limits.{is_within_limits};
@@ -60,11 +61,11 @@ impl Model for Reader {
     ghost invariant = { λ r. IsTrue (is_within_limits r.counted) × IsTrue (is_sound_place r.place) × IsTrue (are_sound_behind r.elements.items) };
 }
 
-impl Reader {
+impl<'a> Reader<'a> {
     ghost use Rattle.nm_reader.specs.Context.{beginning, is_whole, left};
 
     /// Before the first piece.
-    pub fn new(alloc: Global) -> Reader
+    pub fn new(alloc: Global) -> Reader<'a>
         ensures { result ≡ beginning }
     {
         Reader {
@@ -127,7 +128,7 @@ impl Reader {
             return Ok(());
         }
         let opened = self.elements.remove(0);
-        let place = mem::replace(&mut self.place, opened.behind);
+        let place = mem::replace(&mut self.place, opened.into_behind());
         self.tell(told_at_end(place))
     }
 
@@ -136,7 +137,7 @@ impl Reader {
         ensures { result ≡ rules.closes (name_of name.now) self.now.elements }
     {
         match self.elements.first() {
-            Some(opened) => is_spelt(&opened.name, name),
+            Some(opened) => same_spelling(&opened.name, name),
             None => false,
         }
     }
@@ -168,10 +169,15 @@ impl Reader {
 
     #[tactic(auto, using(crate::proofs::Entered::behind_sound))]
     /// Goes into an element.
-    fn enter(&mut self, name: QName, own: Declarations, judged: Judged) -> Result<(), NoMemory>
+    fn enter(
+        &mut self,
+        name: RawName<'a>,
+        own: Declarations<'a>,
+        judged: Judged,
+    ) -> Result<(), NoMemory>
         requires counted { limits.is_within_limits judged.counted ≡ true }
         requires inside { spec.is_sound_place judged.meaning.inside ≡ true }
-        ensures { OnOk result (self.new ≡ spec.entered_by self.old name own judged) }
+        ensures { OnOk result (self.new ≡ spec.entered_by self.old (name_of name.entry) own.entry judged) }
     {
         let Judged {
             role,
@@ -201,12 +207,12 @@ impl Reader {
     pub fn take_open(
         &mut self,
         alloc: Global,
-        name: QName,
-        attributes: &[Attribute],
+        name: RawName<'a>,
+        attributes: &[TagAttribute<'a>],
         empty: bool,
     ) -> Result<(), Refusal>
-        requires { is_name name.local ≡ true }
-        ensures { MatchResult result (λ _. spec.IsBehind self.old (piece.Open name attributes.now empty) self.new) (λ refusal. spec.IsRefusal refusal self.old (piece.Open name attributes.now empty)) }
+        requires { is_name (name_of name).local ≡ true }
+        ensures { MatchResult result (λ _. spec.IsBehind self.old (piece.Open (name_of name.entry) attributes.now empty) self.new) (λ refusal. spec.IsRefusal refusal self.old (piece.Open (name_of name.entry) attributes.now empty)) }
     {
         let own = Declarations::of_list(alloc, declared_by(alloc, attributes)?)?;
         let judged = judge(
@@ -230,7 +236,7 @@ impl Reader {
     #[tactic(auto, unfolding(crate::specs::Rules::code_at))]
     /// Takes the next piece, where it stands in the input. After a refusal the context is not used
     /// again.
-    pub fn take_token(&mut self, alloc: Global, token: Token<'_>) -> Result<(), Refusal>
+    pub fn take_token(&mut self, alloc: Global, token: Token<'a>) -> Result<(), Refusal>
         requires { spec.is_sound_piece (piece_of token) ≡ true }
         ensures { MatchResult result (λ _. spec.IsBehind self.old (piece_of token.entry) self.new) (λ refusal. spec.IsRefusal refusal self.old (piece_of token.entry)) }
     {
@@ -242,9 +248,8 @@ impl Reader {
                 attributes,
                 empty,
             } => {
-                let name = name.to_qname(alloc)?;
-                let attributes = attributes.to_list(alloc)?;
-                self.take_open(alloc, name, attributes.as_slice(), empty)
+                let attributes = attributes_of(alloc, attributes)?;
+                self.take_open(alloc, name, &attributes, empty)
             }
             Token::Close { name } => self.take_close(&name),
             Token::Text(text) => self.take_text(alloc, &text),
@@ -257,7 +262,7 @@ impl Reader {
 
     /// The model that has been told, where a header came first.
     pub fn into_document(self, alloc: Global) -> Result<Option<Document>, NoMemory>
-        ensures { IfOk result (λ model. model ≡ document_of self.told) }
+        ensures { IfOk result (λ model. model ≡ document_of self.entry.told) }
     {
         assembly::document_of(alloc, self.told)
     }

@@ -1,6 +1,7 @@
 // What is asked of a tag in its place, and what it means there.
 ghost use Rattle.nm_ident.specs.Name.{is_name};
 ghost use Rattle.nm_ident.specs.QualifiedName.{QualifiedName};
+ghost use Rattle.nm_piece.specs.Raw.{name_of as written};
 ghost use Rattle.nm_reader.specs.Context.{scope_in};
 ghost use Rattle.nm_reader.specs.Limits as limits;
 ghost use Rattle.nm_reader.specs.Meaning as meanings;
@@ -23,9 +24,10 @@ use crate::opened::{Declarations, Opened};
 use crate::place::{Place, Role};
 use crate::refusal::Refusal;
 use crate::roles::role_of;
+use crate::tag::TagAttribute;
 use nm_ident::{RDF_NAMESPACE, is_namespace};
 use nm_model::{MOST_CHANGES, MOST_DEPENDENCIES, MOST_PROFILES, MOST_STATEMENTS, MOST_SUPERSEDED};
-use nm_piece::{Attribute, QName};
+use nm_piece::RawName;
 use nm_statement::{LONGEST_IRI, Object};
 use std::alloc::Global;
 
@@ -159,25 +161,25 @@ pub fn place_behind(role: Role, place: Place) -> Place
 #[tactic(auto, using(crate::proofs::Judged::statable, crate::proofs::Judged::means, crate::proofs::Judged::kept_if_shaped), unfolding(crate::specs::Taken::tag_code, crate::specs::Tag::counted_by_tag))]
 /// Judges a tag by the rules on tags: the open elements around it stand innermost first, and `own`
 /// is what the tag declares itself.
-pub fn judge(
+pub fn judge<'a>(
     alloc: Global,
     names: &mut Names,
     place: &Place,
-    elements: &[Opened],
-    own: &Declarations,
-    name: &QName,
-    attributes: &[Attribute],
+    elements: &[Opened<'a>],
+    own: &Declarations<'a>,
+    name: &RawName<'a>,
+    attributes: &[TagAttribute<'a>],
     empty: bool,
     counted: Counts,
 ) -> Result<Judged, Refusal>
     requires own { own.now ≡ declared_by attributes.now }
-    requires named { is_name name.now.local ≡ true }
+    requires named { is_name (written name.now).local ≡ true }
     ensures { MatchResult result
-        (λ judged. IsJudged (record { place = place.now; outer = scope_in elements.now; name = name.now; attributes = attributes.now }) empty counted judged)
-        (λ refusal. IsTagRefusal refusal (record { place = place.now; outer = scope_in elements.now; name = name.now; attributes = attributes.now }) empty counted) }
+        (λ judged. IsJudged (record { place = place.now; outer = scope_in elements.now; name = written name.now; attributes = attributes.now }) empty counted judged)
+        (λ refusal. IsTagRefusal refusal (record { place = place.now; outer = scope_in elements.now; name = written name.now; attributes = attributes.now }) empty counted) }
 {
     let ns = element_namespace(own, elements, name);
-    let local = name.local.as_slice();
+    let local = name.local;
     let role = role_of(place, ns, local);
     let judged = role_at(role, empty && is_root_name(ns, local));
     let once = are_spelt_once(alloc, attributes)?;

@@ -21,6 +21,7 @@ mod place;
 mod reading;
 mod refusal;
 mod roles;
+mod tag;
 mod texts;
 
 pub use error::ReadError;

@@ -207,7 +207,7 @@ fn is_description(ns: &[u8], local: &[u8]) -> bool
 fn class_of(alloc: Global, ns: &[u8], local: &[u8]) -> Result<Text, NoMemory>
     ensures { IfOk result (λ class. class ≡ ns.now ++ local.now) }
 {
-    let mut class = Vec::with_capacity(alloc, ns.len())?;
+    let mut class = Vec::with_capacity(alloc, ns.len().saturating_add(local.len()))?;
     class.extend_from_slice(ns)?;
     class.extend_from_slice(local)?;
     Ok(Text::of_list(class))

@@ -1,6 +1,7 @@
 // What a tag declares, and what names mean (Namespaces in XML, sections 3 to 6).
 ghost use Rattle.nm_piece.specs.Raw.{name_of as written};
 ghost use Rattle.nm_reader.specs.Context.{scope_in};
+ghost use Rattle.nm_reader.specs.Lent.{prefix_of};
 ghost use Rattle.nm_reader.specs.Namespaces as spec;
 ghost use Rattle.nm_reader.specs.Seen.{named, spelt};
 ghost use Rattle.std.specs.List.{list_any, list_all};
@@ -9,8 +10,9 @@ ghost use Rattle.std.specs.Prelude.{◌≡◌, ◌++◌, IfOk, Some, codes, is_s
 
 use crate::distinct::are_distinct;
 use crate::opened::{Declaration, Declarations, Opened};
+use crate::tag::TagAttribute;
 use nm_ident::{NoMemory, Text};
-use nm_piece::{Attribute, QName, RawName};
+use nm_piece::RawName;
 use std::alloc::Global;
 
 /// From how many on the attributes of a tag are put in order, so that those that are spelt alike stand
@@ -24,12 +26,12 @@ type Spelling<'a> = (Option<&'a [u8]>, &'a [u8]);
 pub const XML_NAMESPACE: &[u8] = b"http://www.w3.org/XML/1998/namespace";
 
 /// Whether the prefixes are spelt alike, or both are wanting.
-fn same_prefix(x: &Option<Text>, y: &Option<Text>) -> bool
-    ensures { result ≡ spec.same_prefix x.now y.now }
+fn same_prefix(x: Option<&[u8]>, y: Option<&[u8]>) -> bool
+    ensures { result ≡ spec.same_prefix (prefix_of x.entry) (prefix_of y.entry) }
 {
     match x {
         Some(x) => match y {
-            Some(y) => x.as_slice() == y.as_slice(),
+            Some(y) => x == y,
             None => false,
         },
         None => y.is_none(),
@@ -37,39 +39,19 @@ fn same_prefix(x: &Option<Text>, y: &Option<Text>) -> bool
 }
 
 /// Whether the names are spelt alike.
-fn same_spelling(x: &QName, y: &QName) -> bool
-    ensures { result ≡ spec.same_spelling x.now y.now }
+pub fn same_spelling(x: &RawName<'_>, y: &RawName<'_>) -> bool
+    ensures { result ≡ spec.same_spelling (written x.now) (written y.now) }
 {
-    same_prefix(&x.prefix, &y.prefix) && x.local.as_slice() == y.local.as_slice()
-}
-
-/// Whether the name is spelt so.
-pub fn is_spelt(name: &QName, spelling: &RawName<'_>) -> bool
-    ensures { result ≡ spec.same_spelling name.now (written spelling.now) }
-{
-    is_spelt_prefix(&name.prefix, spelling.prefix) && name.local.as_slice() == spelling.local
-}
-
-/// Whether the prefix is spelt so, or both are wanting.
-fn is_spelt_prefix(prefix: &Option<Text>, spelling: Option<&[u8]>) -> bool
-    ensures { result ≡ spec.same_prefix prefix.now (option_map (λ s. s.now) spelling.entry) }
-{
-    match prefix {
-        Some(prefix) => match spelling {
-            Some(spelling) => prefix.as_slice() == spelling,
-            None => false,
-        },
-        None => spelling.is_none(),
-    }
+    same_prefix(x.prefix, y.prefix) && x.local == y.local
 }
 
 /// The namespace that the first of the declarations of a prefix gives it.
-pub fn declared<'a>(declarations: &'a [Declaration], prefix: &Option<Text>) -> Option<&'a [u8]>
-    ensures { option_map (λ namespace. namespace.now) result ≡ spec.declared declarations.now prefix.now }
+pub fn declared<'a>(declarations: &'a [Declaration<'_>], prefix: Option<&[u8]>) -> Option<&'a [u8]>
+    ensures { option_map (λ namespace. namespace.now) result ≡ spec.declared declarations.now (prefix_of prefix.entry) }
 {
     let mut rest = declarations;
     while let [declaration, others @ ..] = rest {
-        if same_prefix(&declaration.prefix, prefix) {
+        if same_prefix(declaration.prefix, prefix) {
             return Some(declaration.namespace.as_slice());
         }
         rest = others;
@@ -78,12 +60,12 @@ pub fn declared<'a>(declarations: &'a [Declaration], prefix: &Option<Text>) -> O
 }
 
 /// Whether the attribute is a declaration.
-pub fn is_declaration(attribute: &Attribute) -> bool
+pub fn is_declaration(attribute: &TagAttribute<'_>) -> bool
     ensures { result ≡ is_some (spec.declaration_of attribute.now) }
 {
-    match &attribute.name.prefix {
-        Some(prefix) => prefix.as_slice() == b"xmlns".as_slice(),
-        None => attribute.name.local.as_slice() == b"xmlns".as_slice(),
+    match attribute.name.prefix {
+        Some(prefix) => prefix == b"xmlns".as_slice(),
+        None => attribute.name.local == b"xmlns".as_slice(),
     }
 }
 
@@ -97,8 +79,8 @@ fn is_allowed_prefix(prefix: &[u8], namespace: &[u8]) -> bool
 #[tactic(auto, using(crate::proofs::Scopes::declared_first, crate::proofs::Scopes::declared_later))]
 /// The namespace of a prefix by the declarations of the open elements, of which the innermost
 /// stands first.
-fn in_force<'a>(elements: &'a [Opened], prefix: &Option<Text>) -> Option<&'a [u8]>
-    ensures { option_map (λ namespace. namespace.now) result ≡ spec.declared (scope_in elements.now) prefix.now }
+fn in_force<'a, 'b>(elements: &'b [Opened<'a>], prefix: Option<&'a [u8]>) -> Option<&'b [u8]>
+    ensures { option_map (λ namespace. namespace.now) result ≡ spec.declared (scope_in elements.now) (prefix_of prefix.entry) }
 {
     let mut rest = elements;
     while let [opened, outer @ ..] = rest {
@@ -111,23 +93,23 @@ fn in_force<'a>(elements: &'a [Opened], prefix: &Option<Text>) -> Option<&'a [u8
 }
 
 /// Whether the prefix is `xml`.
-fn is_xml(prefix: &Option<Text>) -> bool
-    ensures { result ≡ spec.same_prefix prefix.now (Some (codes "xml")) }
+fn is_xml(prefix: Option<&[u8]>) -> bool
+    ensures { result ≡ spec.same_prefix (prefix_of prefix.entry) (Some (codes "xml")) }
 {
     match prefix {
-        Some(prefix) => prefix.as_slice() == b"xml".as_slice(),
+        Some(prefix) => prefix == b"xml".as_slice(),
         None => false,
     }
 }
 
 #[tactic(auto, using(crate::proofs::Scopes::declared_first, crate::proofs::Scopes::declared_later))]
 /// The namespace of a prefix by a tag's own declarations and those of the open elements.
-pub fn namespace_of<'a>(
-    own: &'a Declarations,
-    elements: &'a [Opened],
-    prefix: &Option<Text>,
-) -> Option<&'a [u8]>
-    ensures { option_map (λ namespace. namespace.now) result ≡ spec.namespace_of (own.now ++ scope_in elements.now) prefix.now }
+pub fn namespace_of<'a, 'b>(
+    own: &'b Declarations<'a>,
+    elements: &'b [Opened<'a>],
+    prefix: Option<&'a [u8]>,
+) -> Option<&'b [u8]>
+    ensures { option_map (λ namespace. namespace.now) result ≡ spec.namespace_of (own.now ++ scope_in elements.now) (prefix_of prefix.entry) }
 {
     if is_xml(prefix) {
         return Some(XML_NAMESPACE);
@@ -139,26 +121,26 @@ pub fn namespace_of<'a>(
 }
 
 /// The namespace of an element: empty where it has none.
-pub fn element_namespace<'a>(
-    own: &'a Declarations,
-    elements: &'a [Opened],
-    name: &QName,
-) -> &'a [u8]
-    ensures { result.now ≡ (spec.element_name (own.now ++ scope_in elements.now) name.now).ns }
+pub fn element_namespace<'a, 'b>(
+    own: &'b Declarations<'a>,
+    elements: &'b [Opened<'a>],
+    name: &RawName<'a>,
+) -> &'b [u8]
+    ensures { result.now ≡ (spec.element_name (own.now ++ scope_in elements.now) (written name.now)).ns }
 {
-    match namespace_of(own, elements, &name.prefix) {
+    match namespace_of(own, elements, name.prefix) {
         Some(namespace) => namespace,
         None => &[],
     }
 }
 
 /// The namespace of an attribute: empty where it has none.
-pub fn attribute_namespace<'a>(
-    own: &'a Declarations,
-    elements: &'a [Opened],
-    prefix: &Option<Text>,
-) -> &'a [u8]
-    ensures { result.now ≡ spec.attribute_namespace (own.now ++ scope_in elements.now) prefix.now }
+pub fn attribute_namespace<'a, 'b>(
+    own: &'b Declarations<'a>,
+    elements: &'b [Opened<'a>],
+    prefix: Option<&'a [u8]>,
+) -> &'b [u8]
+    ensures { result.now ≡ spec.attribute_namespace (own.now ++ scope_in elements.now) (prefix_of prefix.entry) }
 {
     if prefix.is_none() {
         return &[];
@@ -170,46 +152,63 @@ pub fn attribute_namespace<'a>(
 }
 
 /// Whether the prefix is declared; a name without one needs no declaration.
-fn is_declared(own: &Declarations, elements: &[Opened], prefix: &Option<Text>) -> bool
-    ensures { result ≡ spec.is_declared (own.now ++ scope_in elements.now) prefix.now }
+fn is_declared<'a>(
+    own: &Declarations<'a>,
+    elements: &[Opened<'a>],
+    prefix: Option<&'a [u8]>,
+) -> bool
+    ensures { result ≡ spec.is_declared (own.now ++ scope_in elements.now) (prefix_of prefix.entry) }
 {
     prefix.is_none() || namespace_of(own, elements, prefix).is_some()
 }
 
 /// Whether the attribute is an allowed declaration, or else has a declared prefix or none.
-fn has_declared_prefix(own: &Declarations, elements: &[Opened], attribute: &Attribute) -> bool
+fn has_declared_prefix<'a>(
+    own: &Declarations<'a>,
+    elements: &[Opened<'a>],
+    attribute: &TagAttribute<'a>,
+) -> bool
     ensures { result ≡ spec.has_declared_prefix (spec.declaration_of attribute.now) (own.now ++ scope_in elements.now) attribute.now }
 {
-    match &attribute.name.prefix {
-        Some(prefix) if prefix.as_slice() == b"xmlns".as_slice() => {
-            is_allowed_prefix(attribute.name.local.as_slice(), attribute.value.as_slice())
+    match attribute.name.prefix {
+        Some(prefix) if prefix == b"xmlns".as_slice() => {
+            is_allowed_prefix(attribute.name.local, attribute.value())
         }
-        _ => is_declared(own, elements, &attribute.name.prefix),
+        _ => is_declared(own, elements, attribute.name.prefix),
     }
 }
 
 /// Whether every prefix of a tag is declared, and each of its declarations is allowed.
-pub fn has_declared_prefixes(
-    own: &Declarations,
-    elements: &[Opened],
-    name: &QName,
-    attributes: &[Attribute],
+pub fn has_declared_prefixes<'a>(
+    own: &Declarations<'a>,
+    elements: &[Opened<'a>],
+    name: &RawName<'a>,
+    attributes: &[TagAttribute<'a>],
 ) -> bool
-    ensures { result ≡ spec.has_declared_prefixes (own.now ++ scope_in elements.now) name.now attributes.now }
+    ensures { result ≡ spec.has_declared_prefixes (own.now ++ scope_in elements.now) (written name.now) attributes.now }
 {
-    is_declared(own, elements, &name.prefix) && have_declared_prefixes(own, elements, attributes)
+    is_declared(own, elements, name.prefix) && have_declared_prefixes(own, elements, attributes)
 }
 
-fn have_declared_prefixes(own: &Declarations, elements: &[Opened], attributes: &[Attribute]) -> bool
+fn have_declared_prefixes<'a>(
+    own: &Declarations<'a>,
+    elements: &[Opened<'a>],
+    attributes: &[TagAttribute<'a>],
+) -> bool
     ensures { result ≡ list_all (λ attribute. spec.has_declared_prefix (spec.declaration_of attribute) (own.now ++ scope_in elements.now) attribute) attributes.now }
 {
-    attributes
-        .iter()
-        .all(|attribute| has_declared_prefix(own, elements, attribute))
+    let mut rest = attributes;
+    while let [attribute, others @ ..] = rest {
+        if !has_declared_prefix(own, elements, attribute) {
+            return false;
+        }
+        rest = others;
+    }
+    true
 }
 
 /// Whether one of the others is spelt as the attribute.
-fn is_repeated(attribute: &Attribute, others: &[Attribute]) -> bool
+fn is_repeated(attribute: &TagAttribute<'_>, others: &[TagAttribute<'_>]) -> bool
     ensures { result ≡ list_any (spec.are_spelt_alike attribute.now) others.now }
 {
     others
@@ -218,7 +217,7 @@ fn is_repeated(attribute: &Attribute, others: &[Attribute]) -> bool
 }
 
 /// Whether no attribute of a tag is spelt twice.
-pub fn are_spelt_once(alloc: Global, attributes: &[Attribute]) -> Result<bool, NoMemory>
+pub fn are_spelt_once(alloc: Global, attributes: &[TagAttribute<'_>]) -> Result<bool, NoMemory>
     ensures { IfOk result (λ once. once ≡ spec.are_spelt_once attributes.now) }
 {
     if attributes.len() < MANY {
@@ -229,7 +228,7 @@ pub fn are_spelt_once(alloc: Global, attributes: &[Attribute]) -> Result<bool, N
 }
 
 /// The same by comparing each two of them.
-fn are_few_spelt_once(attributes: &[Attribute]) -> bool
+fn are_few_spelt_once(attributes: &[TagAttribute<'_>]) -> bool
     ensures { result ≡ spec.are_spelt_once attributes.now }
 {
     let mut rest = attributes;
@@ -243,7 +242,7 @@ fn are_few_spelt_once(attributes: &[Attribute]) -> bool
 }
 
 /// The same by sorting their names.
-fn are_many_spelt_once(alloc: Global, attributes: &[Attribute]) -> Result<bool, NoMemory>
+fn are_many_spelt_once(alloc: Global, attributes: &[TagAttribute<'_>]) -> Result<bool, NoMemory>
     ensures { IfOk result (λ once. once ≡ spec.are_spelt_once attributes.now) }
 {
     Ok(are_distinct(spellings_of(alloc, attributes)?))
@@ -252,7 +251,7 @@ fn are_many_spelt_once(alloc: Global, attributes: &[Attribute]) -> Result<bool, 
 /// The names of attributes, as they are spelt.
 fn spellings_of<'a>(
     alloc: Global,
-    attributes: &'a [Attribute],
+    attributes: &[TagAttribute<'a>],
 ) -> Result<Vec<Spelling<'a>>, NoMemory>
     ensures { IfOk result (λ spellings. map spelt spellings.items ≡ map named attributes.now) }
 {
@@ -265,17 +264,17 @@ fn spellings_of<'a>(
     Ok(spellings)
 }
 
-fn spelling_of(name: &QName) -> Spelling<'_>
-    ensures { spelt result ≡ name.now }
+fn spelling_of<'a>(name: &RawName<'a>) -> Spelling<'a>
+    ensures { spelt result ≡ written name.now }
 {
-    match &name.prefix {
-        Some(prefix) => (Some(prefix.as_slice()), name.local.as_slice()),
-        None => (None, name.local.as_slice()),
-    }
+    (name.prefix, name.local)
 }
 
 /// What the attributes of a tag declare.
-pub fn declared_by(alloc: Global, attributes: &[Attribute]) -> Result<Vec<Declaration>, NoMemory>
+pub fn declared_by<'a>(
+    alloc: Global,
+    attributes: &[TagAttribute<'a>],
+) -> Result<Vec<Declaration<'a>>, NoMemory>
     ensures { IfOk result (λ declarations. declarations.items ≡ spec.declared_by attributes.now) }
 {
     let mut declarations = Vec::new(alloc);
@@ -290,18 +289,21 @@ pub fn declared_by(alloc: Global, attributes: &[Attribute]) -> Result<Vec<Declar
 }
 
 /// What the attribute declares.
-fn declaration_of(alloc: Global, attribute: &Attribute) -> Result<Option<Declaration>, NoMemory>
+fn declaration_of<'a>(
+    alloc: Global,
+    attribute: &TagAttribute<'a>,
+) -> Result<Option<Declaration<'a>>, NoMemory>
     ensures { IfOk result (λ declaration. declaration ≡ spec.declaration_of attribute.now) }
 {
     if !is_declaration(attribute) {
         return Ok(None);
     }
-    let prefix = match &attribute.name.prefix {
-        Some(_) => Some(attribute.name.local.copy(alloc)?),
+    let prefix = match attribute.name.prefix {
+        Some(_) => Some(attribute.name.local),
         None => None,
     };
     Ok(Some(Declaration {
         prefix,
-        namespace: attribute.value.copy(alloc)?,
+        namespace: Text::of_slice(alloc, attribute.value())?,
     }))
 }

@@ -73,7 +73,12 @@ fn read_pieces(alloc: Global, input: &[u8], last: bool) -> Result<Document, Read
 }
 
 /// Takes the piece that begins at the offset. After a refusal the context is not used again.
-fn take_at(alloc: Global, reader: &mut Reader, token: Token<'_>, at: usize) -> Result<(), ReadError>
+fn take_at<'a>(
+    alloc: Global,
+    reader: &mut Reader<'a>,
+    token: Token<'a>,
+    at: usize,
+) -> Result<(), ReadError>
     requires { is_sound_piece (piece_of token) ≡ true }
     ensures { MatchResult result
         (λ _. IsBehind reader.old (piece_of token.entry) reader.new)
@@ -126,13 +131,13 @@ fn end_fault(ended: bool, unfinished: bool, last: bool, whole: bool, at: usize) 
 /// from the offset on.
 fn finish(
     alloc: Global,
-    reader: Reader,
+    reader: Reader<'_>,
     rest: &[u8],
     unread: Unread,
     at: usize,
     last: bool,
 ) -> Result<Document, ReadError>
-    ensures { IsDue wants_memory result (due_from reader (end_at last at rest.now unread)) }
+    ensures { IsDue wants_memory result (due_from reader.entry (end_at last at rest.now unread)) }
 {
     let unfinished = is_unfinished(&unread);
     let fault = end_fault(rest.is_empty(), unfinished, last, reader.is_whole(), at);

@@ -1,10 +1,11 @@
 use Rattle.std.proofs.Common.{◌≡◌, length}
 use Rattle.nm_reader.specs.Context.{scope_in}
+use Rattle.nm_reader.specs.Lent.{prefix_of}
 use Rattle.nm_reader.specs.Namespaces as spec
 use Rattle.nm_reader.proofs.namespaces.in_force.Given as goal
 
 abbrev pub invariant-loop-rest : goal.invariant-loop-rest
-invariant-loop-rest l = spec.declared (scope_in l.rest) l.prefix ≡ spec.declared (scope_in l.elements) l.prefix
+invariant-loop-rest l = spec.declared (scope_in l.rest) (prefix_of l.prefix) ≡ spec.declared (scope_in l.elements) (prefix_of l.prefix)
 
 abbrev pub decreases-loop-rest : goal.decreases-loop-rest
 decreases-loop-rest l = length l.rest
