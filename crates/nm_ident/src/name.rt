@@ -55,10 +55,15 @@ fn continues_name(byte: u8) -> bool
     begins_name(byte) || matches!(byte, b'0'..=b'9' | b'-' | b'.')
 }
 
+// No early end: so the loop looks at many bytes at once.
 fn all_in_name(bytes: &[u8]) -> bool
     ensures { result ≡ list_all spec.continues_name bytes.now }
 {
-    bytes.iter().all(|byte| continues_name(*byte))
+    let mut all = true;
+    for byte in bytes {
+        all &= continues_name(*byte);
+    }
+    all
 }
 
 /// Whether the bytes are a namespace that names may have: 2 to 256 visible ASCII bytes that do not
@@ -79,10 +84,15 @@ fn is_visible(byte: u8) -> bool
     byte.is_ascii_graphic()
 }
 
+// No early end: so the loop looks at many bytes at once.
 fn all_visible(bytes: &[u8]) -> bool
     ensures { result ≡ list_all is_visible_byte bytes.now }
 {
-    bytes.iter().all(|byte| is_visible(*byte))
+    let mut all = true;
+    for byte in bytes {
+        all &= is_visible(*byte);
+    }
+    all
 }
 
 /// Whether a property or a class of a model may have this namespace and local name, so that
