@@ -1,14 +1,14 @@
 -- Bytes that are cut before the first that ends something.
-use Rattle.std.proofs.Common.{◌≡◌, ◌≢◌, ℕ, zero, suc, ◌+◌, ◌≤◌, ◌<◌, Bool, true, false, not, cond, eqb, List, [], ◌∷◌, ◌++◌, length, take, drop, get_or, Option, Some, None, Ok, Err, refl, sym, ap, ◌∙◌, add-one, arith, append-nil, append_assoc}
+use Rattle.std.proofs.Common.{◌≡◌, ◌≢◌, ℕ, suc, ◌+◌, ◌<◌, Bool, true, false, not, cond, eqb, List, [], ◌∷◌, ◌++◌, length, take, drop, get_or, Option, Some, Ok, Err, refl, sym, ap, ◌∙◌, add-one, append-nil, append_assoc}
 use Rattle.std.specs.Prelude.{◌==◌}
-use Rattle.std.proofs.Math.Seq.{drop-cons, drop-length, take-length, take-suc}
+use Rattle.std.proofs.Math.Seq.{drop-cons, drop-length, take-suc}
 use Rattle.std.proofs.lemmas.Bool.{eqb-true, ne_eqb}
 use Rattle.std.specs.List.{list_all}
-use Rattle.nm_text.specs.Split.{IsSplitBefore, begins_or_ends, lacks}
+use Rattle.nm_text.specs.Split.{IsSplitBefore}
 use Rattle.nm_text.specs.White.{is_white, is_white_space}
 use Rattle.nm_piece.specs.declared.unread.Unread.TheVariants.{Unfinished, NoPiece}
 use Rattle.nm_piece.specs.Name.{ends_white, gap_at}
-use Rattle.nm_piece.specs.Reading.{Read, before, found, from, segment_at}
+use Rattle.nm_piece.specs.Reading.{before, found, from, segment_at}
 use Rattle.nm_piece.specs.Run.{is_some_bytes}
 use Rattle.nm_piece.proofs.Readings.{Follows, before_all, before_is, from_is}
 
@@ -85,18 +85,21 @@ pub segment_shut : {X : Type 0} (ends : ℕ → Bool) (value : List ℕ → Opti
 segment_shut ends value begins bytes front [] p q e = absurd cc
 segment_shut ends value begins bytes front (byte ∷ rest) p q e = rw (p, q) refl
 
--- ---- white space
+-- ---- what stands before the cut
 
-all_white : (bytes : List ℕ) → list_all is_white (before ends_white bytes) ≡ true
-all_white [] = refl
-all_white (byte ∷ bytes) = by (is_white byte) refl (all_white bytes)
+-- each byte passes the test that the first byte behind the cut fails
+pub all_before : (test : ℕ → Bool) (bytes : List ℕ) → list_all test (before (λ byte. not (test byte)) bytes) ≡ true
+all_before test [] = refl
+all_before test (byte ∷ bytes) = by (test byte) refl (all_before test bytes)
   where
-    by : (b : Bool) → is_white byte ≡ b → list_all is_white (before ends_white bytes) ≡ true → list_all is_white (cond (not b) [] (byte ∷ before ends_white bytes)) ≡ true
+    by : (b : Bool) → test byte ≡ b → list_all test (before (λ other. not (test other)) bytes) ≡ true → list_all test (cond (not b) [] (byte ∷ before (λ other. not (test other)) bytes)) ≡ true
     by true p others = rw (p, others) refl
     by false p others = refl
 
+-- ---- white space
+
 pub some_white : (bytes : List ℕ) → is_white_space (before ends_white bytes) ≡ not (length (before ends_white bytes) == 0)
-some_white bytes = by (before ends_white bytes) (all_white bytes)
+some_white bytes = by (before ends_white bytes) (all_before is_white bytes)
   where
     by : (white : List ℕ) → list_all is_white white ≡ true → is_white_space white ≡ not (length white == 0)
     by [] e = refl

@@ -1,15 +1,16 @@
 // Names and white space in tags (Namespaces in XML, sections 3 and 4; XML 1.0, section 2.3).
+ghost use Rattle.nm_ident.specs.Name as ident;
 ghost use Rattle.nm_ident.specs.Name.{continues_name as is_name_byte};
 ghost use Rattle.nm_piece.specs.Name as spec;
 ghost use Rattle.nm_piece.specs.Raw.{name_of, read_as};
 ghost use Rattle.nm_piece.specs.Reading.{before, from};
 ghost use Rattle.std.specs.List.{list_all};
-ghost use Rattle.std.specs.Prelude.{◌≡◌, ◌≤◌, length, take, drop};
+ghost use Rattle.std.specs.Prelude.{◌≡◌, ◌≤◌, length, take, drop, not, true};
 
 use crate::raw::RawName;
 use crate::reading::{Read, first, literal, unfinished_if};
 use crate::unread::Unread;
-use nm_ident::is_name;
+use nm_ident::{LONGEST_NAME, is_name};
 use nm_text::is_white;
 
 /// A name, or two joined by `:`.
@@ -44,12 +45,32 @@ fn name(bytes: &[u8]) -> Read<'_, &[u8]>
 {
     let (front, rest) = split_behind_name(bytes);
     if rest.is_empty() {
-        Err(unfinished_if(begins_name(front)))
-    } else if is_name(front) {
+        Err(unfinished_if(front.is_empty() || is_name_where_cut(front)))
+    } else if is_name_where_cut(front) {
         Ok((front, rest))
     } else {
         Err(Unread::NoPiece)
     }
+}
+
+/// Whether the bytes are a name, where names have each of them.
+// What was cut behind its last such byte is not looked at once more.
+fn is_name_where_cut(front: &[u8]) -> bool
+    requires { list_all is_name_byte front.now ≡ true }
+    ensures { result ≡ ident.is_name front.now }
+{
+    match front {
+        [] => false,
+        [first, ..] => !follows_alone(*first) && front.len() <= LONGEST_NAME,
+    }
+}
+
+/// Whether a byte that names have begins none.
+fn follows_alone(byte: u8) -> bool
+    requires { is_name_byte byte ≡ true }
+    ensures { result ≡ not (ident.begins_name byte) }
+{
+    matches!(byte, b'0'..=b'9' | b'-' | b'.')
 }
 
 /// Whether a name begins so.
