@@ -1,8 +1,9 @@
 -- Bytes that are cut before the first that ends something.
-use Rattle.std.proofs.Common.{◌≡◌, ◌≢◌, ℕ, suc, ◌+◌, ◌<◌, Bool, true, false, not, cond, eqb, List, [], ◌∷◌, ◌++◌, length, take, drop, get_or, Option, Some, Ok, Err, refl, sym, ap, ◌∙◌, add-one, append-nil, append_assoc}
+use Rattle.std.proofs.Common.{◌≡◌, ◌≢◌, ℕ, zero, suc, ◌+◌, ◌-◌, ◌≤◌, ◌<◌, Bool, true, false, not, cond, eqb, List, [], ◌∷◌, ◌++◌, length, take, drop, get_or, Option, Some, Ok, Err, refl, sym, ap, subst, ◌∙◌, add-one, arith, append-nil, append_assoc, length-append}
 use Rattle.std.specs.Prelude.{◌==◌}
 use Rattle.std.proofs.Math.Seq.{drop-cons, drop-length, take-suc}
-use Rattle.std.proofs.lemmas.Bool.{eqb-true, ne_eqb}
+use Rattle.std.proofs.lemmas.Bool.{and_parts, eqb-true, ne_eqb}
+use Rattle.std.proofs.lemmas.List.{get_or-take, length-take, take-append-drop, take-take, take_all}
 use Rattle.std.specs.List.{list_all}
 use Rattle.nm_text.specs.Split.{IsSplitBefore}
 use Rattle.nm_text.specs.White.{is_white, is_white_space}
@@ -10,7 +11,7 @@ use Rattle.nm_piece.specs.declared.unread.Unread.TheVariants.{Unfinished, NoPiec
 use Rattle.nm_piece.specs.Name.{ends_white, gap_at}
 use Rattle.nm_piece.specs.Reading.{before, found, from, segment_at}
 use Rattle.nm_piece.specs.Run.{is_some_bytes}
-use Rattle.nm_piece.proofs.Readings.{Follows, before_all, before_is, from_is}
+use Rattle.nm_piece.proofs.Readings.{Follows, before_all, before_is, from_is, list_all-append}
 
 -- ---- a scan for the cut
 
@@ -54,6 +55,75 @@ cut_at_end ends bytes u = record {
   before_is = u.before_is ∙ ap (λ (t : List ℕ). take (length bytes) bytes ++ before ends t) (drop-length bytes) ∙ append-nil (take (length bytes) bytes);
   from_is = u.from_is ∙ ap (from ends) (drop-length bytes) ∙ sym (drop-length bytes);
 }
+
+-- where each byte before a place passes the test, and the one there fails it, the cut is there
+pub cut_at_first : (test : ℕ → Bool) (bytes : List ℕ) (place : ℕ) → place ≤ length bytes → list_all test (take place bytes) ≡ true → (place < length bytes → test (get_or bytes place 0) ≡ false)
+    → IsCutAt (λ byte. not (test byte)) bytes place
+cut_at_first test [] zero le all fails = record { before_is = refl; from_is = refl }
+cut_at_first test (byte ∷ bytes) zero le all fails =
+    let here : test byte ≡ false = fails (omega arith) in
+    record { before_is = rw here refl; from_is = rw here refl }
+cut_at_first test [] (suc place) le all fails = absurd (omega arith)
+cut_at_first test (byte ∷ bytes) (suc place) le all fails =
+    let parts = and_parts (test byte) (list_all test (take place bytes)) all in
+    let others = cut_at_first test bytes place (omega arith) parts.1 (λ within. fails (omega arith)) in
+    record { before_is = rw parts.0 (ap (λ (t : List ℕ). byte ∷ t) others.before_is); from_is = rw parts.0 others.from_is }
+
+-- ---- a cut behind bytes that were passed
+
+-- what is left behind bytes that pass the test
+pub record IsPassed (test : ℕ → Bool) (bytes rest : List ℕ) : Type 0 where
+  pub front : List ℕ
+  pub joined : front ++ rest ≡ bytes
+  pub passed : list_all test front ≡ true
+
+pub nothing_passed : (test : ℕ → Bool) (bytes : List ℕ) → IsPassed test bytes bytes
+nothing_passed test bytes = record { front = []; joined = refl; passed = refl }
+
+-- a chunk of the rest passes too
+pub passed_further : (test : ℕ → Bool) (bytes rest chunk behind : List ℕ) (size count : ℕ) → IsPassed test bytes rest → chunk ≡ take size rest → behind ≡ drop size rest → size ≤ count → list_all test (take count chunk) ≡ true → IsPassed test bytes behind
+passed_further test bytes rest chunk behind size count p chunk_is behind_is le all =
+    let long = length-take size rest in
+    let whole : take count (take size rest) ≡ take size rest = take_all count (take size rest) (omega arith) in
+    record {
+      front = p.front ++ take size rest;
+      joined = append_assoc p.front (take size rest) behind
+          ∙ ap (λ (t : List ℕ). p.front ++ (take size rest ++ t)) behind_is
+          ∙ ap (λ (t : List ℕ). p.front ++ t) (take-append-drop size rest) ∙ p.joined;
+      passed = list_all-append test p.front (take size rest) p.passed
+          (ap (list_all test) (sym (ap (take count) chunk_is ∙ whole)) ∙ all);
+    }
+
+-- the cut of the rest, seen from the front
+cut_behind : (test : ℕ → Bool) (front rest : List ℕ) (place : ℕ) → list_all test front ≡ true → IsCutAt (λ byte. not (test byte)) rest place → IsCutAt (λ byte. not (test byte)) (front ++ rest) (length front + place)
+cut_behind test [] rest place all cut =
+    let none : place ≡ 0 + place = omega arith in
+    subst (λ (n : ℕ). IsCutAt (λ byte. not (test byte)) rest n) none cut
+cut_behind test (byte ∷ front) rest place all cut =
+    let parts = and_parts (test byte) (list_all test front) all in
+    let others = cut_behind test front rest place parts.1 cut in
+    let further : length (byte ∷ front) + place ≡ suc (length front + place) = omega arith in
+    rw further (record { before_is = rw parts.0 (ap (λ (t : List ℕ). byte ∷ t) others.before_is); from_is = rw parts.0 others.from_is })
+
+pub cut_in_rest : (test : ℕ → Bool) (bytes rest : List ℕ) (place : ℕ) → IsPassed test bytes rest → place ≤ length rest → list_all test (take place rest) ≡ true → (place < length rest → test (get_or rest place 0) ≡ false)
+    → IsCutAt (λ byte. not (test byte)) bytes (length bytes - length rest + place)
+cut_in_rest test bytes rest place p le all fails =
+    let size = length-append p.front rest in
+    let same = ap (λ (t : List ℕ). length t) p.joined in
+    let here : length p.front + place ≡ length bytes - length rest + place = omega arith in
+    subst (λ (n : ℕ). IsCutAt (λ byte. not (test byte)) bytes n) here
+    (subst (λ (t : List ℕ). IsCutAt (λ byte. not (test byte)) t (length p.front + place)) p.joined
+    (cut_behind test p.front rest place p.passed (cut_at_first test rest place le all fails)))
+
+-- the cut in a chunk of the rest
+pub cut_in_chunk : (test : ℕ → Bool) (bytes rest chunk : List ℕ) (size place : ℕ) → IsPassed test bytes rest → chunk ≡ take size rest → size ≤ length rest → place < size → list_all test (take place chunk) ≡ true → (place < length chunk → test (get_or chunk place 0) ≡ false)
+    → IsCutAt (λ byte. not (test byte)) bytes (length bytes - length rest + place)
+cut_in_chunk test bytes rest chunk size place p chunk_is le lt all fails =
+    let long = ap (λ (t : List ℕ). length t) chunk_is ∙ length-take size rest in
+    let here : test (get_or chunk place 0) ≡ false = fails (omega arith) in
+    cut_in_rest test bytes rest place p (omega arith)
+    (ap (list_all test) (sym (ap (take place) chunk_is ∙ take-take place size rest (omega arith))) ∙ all)
+    (λ within. ap test (sym (ap (λ (t : List ℕ). get_or t place 0) chunk_is ∙ get_or-take size rest place 0 lt)) ∙ here)
 
 -- ---- a cut before the first of one byte
 
