@@ -1,12 +1,12 @@
 -- Values and texts that are told by their spellings.
-use Rattle.std.proofs.Common.{◌≡◌, ℕ, Bool, true, false, not, eqb, ◌&&◌, ◌||◌, ◌==◌, List, [], ◌∷◌, ◌++◌, if◌then◌else◌, Option, Some, refl, sym, ap, ◌∙◌, arith}
+use Rattle.std.proofs.Common.{◌≡◌, ℕ, Bool, true, false, not, ◌||◌, ◌==◌, List, [], ◌∷◌, ◌++◌, if◌then◌else◌, Some, refl, sym, ap, ◌∙◌, arith}
 use Rattle.std.proofs.lemmas.Bool.{and_parts, and_from, eqb-true}
 use Rattle.std.proofs.lemmas.List.{append-nil}
 use Rattle.std.proofs.lemmas.List.Folds.{list_all-append}
 use Rattle.std.specs.List.{list_all}
 use Rattle.std.specs.Prelude.{map}
 use Rattle.nm_text.specs.LineEnds.{begins_with_line_feed, line_end_before, normal_lines, read_before}
-use Rattle.nm_text.specs.Meaning.{attribute_value, cdata_text, run_text, white_as_space, with_spaces}
+use Rattle.nm_text.specs.Meaning.{attribute_value, white_as_space, with_spaces}
 use Rattle.nm_text.specs.Reference.{without_references}
 use Rattle.nm_text.specs.Split.{lacks}
 use Rattle.nm_text.specs.White.{is_white, is_white_text}

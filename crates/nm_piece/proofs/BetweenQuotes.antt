@@ -1,14 +1,13 @@
 -- What stands between quotes, read as values of one kind and of another.
-use Rattle.std.proofs.Common.{◌≡◌, ℕ, Bool, true, false, not, cond, eqb, List, [], ◌∷◌, drop, Option, Some, None, Result, Ok, Err, refl, sym, ap, ◌∙◌, ◌||◌}
-use Rattle.std.specs.Prelude.{◌==◌}
+use Rattle.std.proofs.Common.{◌≡◌, ℕ, Bool, true, false, cond, eqb, List, [], ◌∷◌, drop, Option, Some, None, Ok, Err, refl, sym, ap, ◌∙◌, ◌||◌}
 use Rattle.std.proofs.lemmas.Bool.{eqb-true}
-use Rattle.nm_text.specs.Split.{IsSplitBefore, begins_or_ends}
+use Rattle.nm_text.specs.Split.{IsSplitBefore}
 use Rattle.nm_piece.specs.declared.unread.Unread.TheVariants.{Unfinished, NoPiece}
 use Rattle.nm_piece.specs.Reading.{Read, ◌>>=◌, before, ended, found, from, literal_at}
 use Rattle.nm_piece.specs.Spells.{is_quote}
 use Rattle.nm_piece.specs.Value.{closed_at, quoted_at}
 use Rattle.nm_piece.proofs.Readings.{ok_parts}
-use Rattle.nm_piece.proofs.Splits.{IsCut, cut_is}
+use Rattle.nm_piece.proofs.Splits.{cut_is}
 
 -- the value as it is
 abbrev pub as_it_is : List ℕ → Read (List ℕ)

@@ -1,20 +1,16 @@
 -- What the tests of plain bytes, and of others, say of values and runs.
-use Rattle.std.proofs.Common.{◌≡◌, ℕ, ◌≤◌, Bool, true, false, not, cond, eqb, leb, ◌&&◌, ◌||◌, List, [], ◌∷◌, length, Option, Some, None, refl, sym, ap, ◌∙◌, arith, ◌⊎◌, inl, inr, codes}
-use Rattle.std.specs.Prelude.{is_none, is_some, nat_eq, nat_le}
+use Rattle.std.proofs.Common.{◌≡◌, ℕ, Bool, true, false, not, cond, eqb, ◌&&◌, ◌||◌, List, [], ◌∷◌, Option, Some, None, refl, sym, ap, ◌∙◌, ◌⊎◌, inl, inr}
+use Rattle.std.specs.Prelude.{is_some, nat_eq, nat_le}
 use Rattle.std.specs.List.{list_all, starts_with}
-use Rattle.std.specs.Option.{option_map}
-use Rattle.std.proofs.lemmas.Bool.{cases_Bool, and_parts, and_from, both_ways, eqb-true}
-use Rattle.nm_text.specs.Characters.{is_text}
+use Rattle.std.proofs.lemmas.Bool.{cases_Bool, and_parts}
 use Rattle.nm_text.specs.Mark.{cdata_end, holds}
 use Rattle.nm_text.specs.Meaning.{attribute_value, run_text}
 use Rattle.nm_text.specs.Split.{lacks}
-use Rattle.nm_text.specs.Utf8.{place_after, place_after_byte, spells_text}
+use Rattle.nm_text.specs.Utf8.{place_after_byte, spells_text}
 use Rattle.nm_text.specs.declared.character.Place.TheVariants.{Between}
 use Rattle.nm_text.proofs.Meant.{run_is_meant, value_is_meant}
-use Rattle.nm_text.proofs.Utf8Texts.{texts_by_bytes}
-use Rattle.nm_piece.specs.declared.piece.Piece.TheVariants.{Text}
-use Rattle.nm_piece.specs.Meant.{is_plain_character, or_empty, text_meant}
-use Rattle.nm_piece.specs.Run.{is_some_bytes, run_of, text_of_run}
+use Rattle.nm_piece.specs.Meant.{is_plain_character, or_empty}
+use Rattle.nm_piece.specs.Run.{is_some_bytes, run_of}
 use Rattle.nm_piece.specs.Value.{are_references, value_of}
 use Rattle.nm_piece.proofs.Ampersands.{no_ampersand}
 use Rattle.nm_piece.proofs.Marks.{or_from_false, starts_parts}

@@ -1,11 +1,11 @@
 -- What comes next inside a start tag.
-use Rattle.std.proofs.Common.{◌≡◌, ℕ, suc, ◌+◌, ◌≤◌, ◌<◌, Bool, true, false, eqb, List, [], ◌∷◌, ◌++◌, length, Result, Ok, Err, refl, sym, ap, ◌∙◌, arith, length-append}
+use Rattle.std.proofs.Common.{◌≡◌, ℕ, ◌≤◌, ◌<◌, Bool, true, false, eqb, List, ◌∷◌, length, Ok, Err, refl, ap, ◌∙◌, arith, length-append}
 use Rattle.nm_piece.specs.declared.piece.Attribute.{Attribute}
 use Rattle.nm_piece.specs.declared.unread.Unread.{Unread}
 use Rattle.nm_piece.specs.Inside.{behind_attribute, without_attributes}
 use Rattle.nm_piece.specs.Name.{gap_at}
 use Rattle.nm_piece.specs.Reading.{Read, ◌>>=◌, choice}
-use Rattle.nm_piece.specs.Tag.{Inside, attribute_at, behind_white, empty_end, inside_at, plain_end, with_attribute}
+use Rattle.nm_piece.specs.Tag.{Inside, attribute_at, behind_white, empty_end, inside_at, plain_end}
 use Rattle.nm_piece.specs.Meant.{attributes_of, is_read}
 use Rattle.nm_piece.specs.declared.unread.Unread.TheVariants.{NoPiece}
 use Rattle.nm_piece.proofs.Readings.{ok_parts}

@@ -1,9 +1,8 @@
 -- What comes next inside a start tag.
-use Rattle.std.specs.Prelude.{◌≡◌, ℕ, ◌<◌, List, [], length, Bool, Result, Ok, Err}
+use Rattle.std.specs.Prelude.{◌≡◌, ℕ, ◌<◌, List, [], length, Bool, Ok}
 use Rattle.nm_piece.specs.declared.piece.Attribute.{Attribute}
 use Rattle.nm_piece.specs.declared.elements.Inside.{Inside as Next}
 use Rattle.nm_piece.specs.declared.elements.Inside.TheVariants.{Attribute as AttributeNext, End}
-use Rattle.nm_piece.specs.declared.unread.Unread.{Unread}
 use Rattle.nm_piece.specs.Raw.{attribute_of}
 use Rattle.nm_piece.specs.Reading.{Read, ◌>>=◌}
 use Rattle.nm_piece.specs.Tag.{Inside, inside_at, with_attribute}

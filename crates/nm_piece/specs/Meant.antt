@@ -1,7 +1,7 @@
 -- What spellings stand for, where they are sound.
 use Rattle.std.specs.Prelude.{ℕ, List, [], Bool, true, false, not, ◌&&◌, ◌||◌, ◌==◌, Option, None, Some, Ok, Err, if◌then◌else◌}
 use Rattle.nm_terms.specs.Bytes.{is_between}
-use Rattle.nm_text.specs.Meaning.{attribute_value, cdata_text, run_text}
+use Rattle.nm_text.specs.Meaning.{cdata_text, run_text}
 use Rattle.nm_piece.specs.declared.piece.Attribute.{Attribute}
 use Rattle.nm_piece.specs.Reading.{Read}
 use Rattle.nm_piece.specs.Tag.{Inside, inside_at}

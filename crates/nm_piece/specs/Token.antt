@@ -1,5 +1,4 @@
 -- The piece that a token stands for.
-use Rattle.std.specs.Prelude.{ℕ, List, [], ◌∷◌, Bool, Option}
 use Rattle.std.specs.Option.{option_map}
 use Rattle.nm_piece.specs.declared.piece.Piece.{Piece}
 use Rattle.nm_piece.specs.declared.piece.Piece.TheVariants.{Start, Doctype, Open, Close, Text, Skip}

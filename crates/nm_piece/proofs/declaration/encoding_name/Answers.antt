@@ -1,6 +1,6 @@
-use Rattle.std.proofs.Common.{◌≡◌, ◌∙◌, ap, sym, refl, drop, Err}
+use Rattle.std.proofs.Common.{◌∙◌, ap, sym, refl, drop, Err}
 use Rattle.nm_piece.specs.Start.{begins_encoding, encoding_of}
-use Rattle.nm_piece.proofs.BetweenQuotes.{err_if, quoted_found, quoted_open, quoted_refused}
+use Rattle.nm_piece.proofs.BetweenQuotes.{err_if, quoted_open}
 use Rattle.nm_piece.proofs.declaration.encoding_name.Goals as goal
 
 pub returns-in-Err-Unfinished : goal.returns-in-Err-Unfinished

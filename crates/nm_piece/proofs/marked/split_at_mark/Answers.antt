@@ -1,6 +1,4 @@
-use Rattle.std.proofs.Common.{◌≡◌, ◌∙◌, ap, sym, true, false}
-use Rattle.std.specs.List.{starts_with}
-use Rattle.std.specs.Prelude.{nat_eq}
+use Rattle.std.proofs.Common.{sym}
 use Rattle.nm_piece.proofs.Scans.{here_at, step_at}
 use Rattle.nm_piece.proofs.marked.split_at_mark.Goals as goal
 

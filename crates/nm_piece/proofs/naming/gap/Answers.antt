@@ -1,4 +1,4 @@
-use Rattle.std.proofs.Common.{◌≡◌, ◌∙◌, sym, ap, true}
+use Rattle.std.proofs.Common.{◌∙◌, sym, true}
 use Rattle.std.specs.Prelude.{Some}
 use Rattle.nm_text.specs.White.{is_white_space}
 use Rattle.nm_piece.specs.Name.{ends_white}

@@ -1,4 +1,4 @@
-use Rattle.std.proofs.Common.{◌≡◌, ◌+◌, ◌≤◌, length, ap, sym, arith, length-append}
+use Rattle.std.proofs.Common.{length, ap, sym, arith, length-append}
 use Rattle.nm_piece.specs.Token.{piece_of}
 use Rattle.nm_piece.proofs.Pieces.{piece_found}
 use Rattle.nm_piece.proofs.owned.next.Goals as goal

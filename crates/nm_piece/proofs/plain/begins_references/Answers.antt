@@ -1,5 +1,4 @@
 use Rattle.std.proofs.Common.{◌∙◌, sym}
-use Rattle.std.specs.Prelude.{length, ◌==◌}
 use Rattle.nm_piece.proofs.Fronts.{all_begin, open_is_last, reference_begins, stray_begins_none}
 use Rattle.nm_piece.proofs.Splits.{none_is, some_is}
 use Rattle.nm_piece.proofs.plain.begins_references.Goals as goal

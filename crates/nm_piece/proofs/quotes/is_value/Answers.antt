@@ -1,4 +1,4 @@
-use Rattle.std.proofs.Common.{◌≡◌, ◌∙◌, sym, ap, refl}
+use Rattle.std.proofs.Common.{◌∙◌, sym, refl}
 use Rattle.nm_text.proofs.Utf8Texts.{texts_by_bytes}
 use Rattle.nm_piece.proofs.Meant.{plain_value, values_are}
 use Rattle.nm_piece.proofs.quotes.is_value.Goals as goal

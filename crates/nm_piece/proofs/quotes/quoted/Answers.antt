@@ -1,7 +1,7 @@
-use Rattle.std.proofs.Common.{◌≡◌, ◌∙◌, List, ℕ, ◌∷◌, [], ap, sym, subst, Err}
+use Rattle.std.proofs.Common.{◌∙◌, sym, subst}
 use Rattle.std.proofs.lemmas.Result.{err_from_is_err_and}
 use Rattle.nm_text.specs.Split.{IsSplitBefore}
-use Rattle.nm_piece.proofs.BetweenQuotes.{as_it_is, quoted_between, quoted_unclosed, unquoted}
+use Rattle.nm_piece.proofs.BetweenQuotes.{quoted_between, quoted_unclosed}
 use Rattle.nm_piece.proofs.quotes.quoted.Goals as goal
 
 pub returns-in_err-rest : goal.returns-in_err-rest

@@ -1,4 +1,4 @@
-use Rattle.std.proofs.Common.{◌≡◌, ◌∙◌, ℕ, List, Option, Some, None, Err, refl, sym, ap, eqb, cond}
+use Rattle.std.proofs.Common.{◌≡◌, ◌∙◌, ℕ, List, Option, Some, None, Err, refl, sym, eqb, cond}
 use Rattle.nm_piece.specs.declared.piece.Piece.{Piece}
 use Rattle.nm_piece.specs.declared.piece.Piece.TheVariants.{Text}
 use Rattle.std.specs.Option.{option_map}
