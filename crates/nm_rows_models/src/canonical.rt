@@ -1,10 +1,11 @@
 //! Canonical documents: which bytes are one, and how one goes to a sink.
+use crate::documents::{full_of, is_canonical, read};
 use crate::large::{classed, named, substations};
-use crate::models::{BASE, bare_header};
+use crate::models::{BASE, bare_header, north, north_cut_off};
 use nm_base::{MemorySink, SteadySink};
-use nm_canon::{CanonicalError, read_canonical};
+use nm_ident::NoMemory;
 use nm_model::{Document, Full};
-use nm_samples::NORTH;
+use nm_statement::Statement;
 use nm_writer::{WriteError, write_document, write_to};
 use std::alloc::Global;
 use std::test::Fail;
@@ -29,48 +30,88 @@ const FREELY_SPELT: &[u8] = b"\xEF\xBB\xBF<?xml version=\"1.0\" encoding=\"utf-8
 </rdf:RDF>\r
 ";
 
-#[test]
-fn the_model_of_a_canonical_document_is_read(rt: HostRuntime) -> Result<(), Fail> {
-    let alloc = rt.alloc();
-    let id = b"_20000000-0000-4000-8000-000000000001";
-    match read_canonical(alloc, &NORTH[9..471])? {
-        Document::Full(full) => {
-            assert_eq!(rt; full.header.id, BASE);
-            let statements = [named(alloc, id, b"North")?, classed(alloc, id)?];
-            assert!(rt; full.statements.as_slice() == statements.as_slice());
-        }
-        Document::Difference(_) => assert!(rt; false),
+/// The substation that [`north`] states.
+const ID: &[u8] = b"_20000000-0000-4000-8000-000000000001";
+
+fn is_at(full: &Full, place: usize, statement: &Statement) -> bool {
+    match full.statements.as_slice().get(place) {
+        Some(other) => other == statement,
+        None => false,
     }
-    Ok(())
 }
 
-/// Whether the bytes are refused as no canonical document.
-fn is_not_canonical(alloc: Global, bytes: &[u8]) -> bool {
-    match read_canonical(alloc, bytes) {
-        Ok(_model) => false,
-        Err(error) => error == CanonicalError::NotCanonical,
+fn names_north(alloc: Global, full: &Full) -> Result<bool, Fail> {
+    let statement = named(alloc, ID, b"North")?;
+    Ok(is_at(full, 0, &statement))
+}
+
+fn classes_north(alloc: Global, full: &Full) -> Result<bool, Fail> {
+    let statement = classed(alloc, ID)?;
+    Ok(is_at(full, 1, &statement))
+}
+
+/// Whether the model states a name and a class, and no more.
+fn states_north(alloc: Global, full: &Full) -> Result<bool, Fail> {
+    Ok(
+        full.header.id == BASE
+            && full.statements.len() == 2
+            && names_north(alloc, full)?
+            && classes_north(alloc, full)?,
+    )
+}
+
+fn is_north_read(alloc: Global) -> Result<bool, Fail> {
+    match full_of(read(alloc, north())?) {
+        Some(full) => states_north(alloc, &full),
+        None => Ok(false),
     }
+}
+
+#[test]
+fn the_model_of_a_canonical_document_is_read(rt: HostRuntime) -> Result<(), Fail> {
+    assert!(rt; is_north_read(rt.alloc())?);
+    Ok(())
 }
 
 #[test]
 fn other_bytes_are_not_canonical(rt: HostRuntime) -> Result<(), Fail> {
-    let alloc = rt.alloc();
-    assert!(rt; is_not_canonical(alloc, FREELY_SPELT));
-    assert!(rt; is_not_canonical(alloc, b""));
-    assert!(rt; is_not_canonical(alloc, &NORTH[9..470]));
+    assert!(rt; !is_canonical(rt.alloc(), FREELY_SPELT)?);
+    assert!(rt; !is_canonical(rt.alloc(), b"")?);
+    assert!(rt; !is_canonical(rt.alloc(), north_cut_off())?);
     Ok(())
+}
+
+/// Whether the document goes to a sink with so much room with this result, and the sink is given
+/// these bytes.
+fn goes_to(
+    alloc: Global,
+    model: &Document,
+    room: usize,
+    due: Result<(), WriteError>,
+    text: &[u8],
+) -> Result<bool, NoMemory> {
+    let mut sink = SteadySink::new(alloc, room)?;
+    let result = write_to(alloc, model, &mut sink);
+    Ok(result == due && sink.bytes() == text)
+}
+
+fn fits_in_its_length(alloc: Global, model: &Document) -> Result<bool, NoMemory> {
+    Ok(
+        goes_to(alloc, model, 462, Ok(()), north())?
+            && goes_to(alloc, model, 461, Err(WriteError::Fault), north_cut_off())?,
+    )
+}
+
+fn does_north_fit(alloc: Global) -> Result<bool, NoMemory> {
+    match read(alloc, north())? {
+        Some(model) => fits_in_its_length(alloc, &model),
+        None => Ok(false),
+    }
 }
 
 #[test]
 fn a_document_fits_in_the_room_that_it_has(rt: HostRuntime) -> Result<(), Fail> {
-    let alloc = rt.alloc();
-    let model = read_canonical(alloc, &NORTH[9..471])?;
-    let mut whole = SteadySink::new(alloc, 462)?;
-    write_to(alloc, &model, &mut whole)?;
-    assert_eq!(rt; Some(whole.bytes()), NORTH.get(9..471));
-    let mut short = SteadySink::new(alloc, 461)?;
-    assert!(rt; write_to(alloc, &model, &mut short) == Err(WriteError::Fault));
-    assert_eq!(rt; Some(short.bytes()), NORTH.get(9..470));
+    assert!(rt; does_north_fit(rt.alloc())?);
     Ok(())
 }
 
@@ -82,20 +123,43 @@ fn long_model(alloc: Global) -> Result<Document, Fail> {
     }))
 }
 
+/// Whether a sink is given the document of the model as this text.
+fn is_given_whole(alloc: Global, model: &Document, text: &[u8]) -> bool {
+    let mut sink = MemorySink::new(alloc, Vec::new(alloc));
+    let result = write_to(alloc, model, &mut sink);
+    result == Ok(()) && sink.bytes() == text
+}
+
+/// Whether the bytes are the first two blocks of the text, each with less than one object more than
+/// a block has.
+fn are_two_blocks(bytes: &[u8], text: &[u8]) -> bool {
+    text.starts_with(bytes) && bytes.len() >= 2 * BLOCK && bytes.len() < 2 * BLOCK + 400
+}
+
+/// Whether a sink whose third call fails is given the first two blocks of the text.
+fn is_given_two_blocks(alloc: Global, model: &Document, text: &[u8]) -> Result<bool, NoMemory> {
+    let mut sink = MemorySink::new(alloc, vec![in alloc; 2]?);
+    let result = write_to(alloc, model, &mut sink);
+    Ok(result == Err(WriteError::Fault) && are_two_blocks(sink.bytes(), text))
+}
+
+/// Whether the document of the model has more than three blocks, and goes to a sink in blocks.
+fn goes_in_blocks(alloc: Global, model: &Document) -> Result<bool, Fail> {
+    let text = write_document(alloc, model)?;
+    Ok(
+        text.len() > 3 * BLOCK
+            && is_given_whole(alloc, model, &text)
+            && is_given_two_blocks(alloc, model, &text)?,
+    )
+}
+
+fn does_long_model_go_in_blocks(alloc: Global) -> Result<bool, Fail> {
+    let model = long_model(alloc)?;
+    goes_in_blocks(alloc, &model)
+}
+
 #[test]
 fn a_document_goes_to_a_sink_block_by_block(rt: HostRuntime) -> Result<(), Fail> {
-    let alloc = rt.alloc();
-    let model = long_model(alloc)?;
-    let text = write_document(alloc, &model)?;
-    assert!(rt; text.len() > 3 * BLOCK);
-    let mut sink = MemorySink::new(alloc, Vec::new(alloc));
-    write_to(alloc, &model, &mut sink)?;
-    assert_eq!(rt; sink.bytes(), text.as_slice());
-    let mut failing = MemorySink::new(alloc, vec![in alloc; 2]?);
-    assert!(rt; write_to(alloc, &model, &mut failing) == Err(WriteError::Fault));
-    // The first two blocks, each with less than one object more than a block has.
-    assert!(rt; text.starts_with(failing.bytes()));
-    assert!(rt; failing.bytes().len() >= 2 * BLOCK);
-    assert!(rt; failing.bytes().len() < 2 * BLOCK + 400);
+    assert!(rt; does_long_model_go_in_blocks(rt.alloc())?);
     Ok(())
 }

@@ -1,9 +1,9 @@
 //! Documents that are read, and written again as they were.
+use crate::models::{another_name, bare_base, north, renamed, same_name};
 use nm_canon::{CanonicalError, read_canonical};
 use nm_ident::NoMemory;
 use nm_model::{Document, Full};
-use nm_samples::{ANOTHER_NAME, BARE_BASE, NORTH, RENAMED, full_model};
-use nm_statement::Literal;
+use nm_samples::full_model;
 use nm_writer::{write_document, write_full};
 use std::alloc::Global;
 use std::test::Fail;
@@ -36,32 +36,50 @@ pub fn read(alloc: Global, text: &[u8]) -> Result<Option<Document>, NoMemory> {
     }
 }
 
+/// Whether the text is the canonical document of a model.
+pub fn is_canonical(alloc: Global, text: &[u8]) -> Result<bool, NoMemory> {
+    Ok(read(alloc, text)?.is_some())
+}
+
+fn is_document_of(alloc: Global, model: &Document, text: &[u8]) -> Result<bool, NoMemory> {
+    Ok(write_document(alloc, model)?.as_slice() == text)
+}
+
 /// Whether the text is read, and what it states is written as the text is.
 pub fn is_written_again(alloc: Global, text: &[u8]) -> Result<bool, NoMemory> {
     match read(alloc, text)? {
-        Some(model) => Ok(write_document(alloc, &model)?.as_slice() == text),
+        Some(model) => is_document_of(alloc, &model, text),
         None => Ok(false),
     }
 }
 
+/// Whether the full model with these parts is written again as it is.
+pub fn is_full_model_written_again(alloc: Global, parts: &[&[u8]]) -> Result<bool, NoMemory> {
+    let text = full_model(alloc, parts)?;
+    is_written_again(alloc, &text)
+}
+
+fn are_parts_written_again(alloc: Global) -> Result<bool, NoMemory> {
+    Ok(
+        is_full_model_written_again(alloc, &[CHARACTERS])?
+            && is_full_model_written_again(alloc, &[EMPTY_NAME])?
+            && is_full_model_written_again(alloc, &[TWO_CLASSES])?,
+    )
+}
+
 #[test]
 fn full_models_are_written_again(rt: HostRuntime) -> Result<(), Fail> {
-    let alloc = rt.alloc();
-    assert!(rt; is_written_again(alloc, &BARE_BASE[9..274])?);
-    assert!(rt; is_written_again(alloc, &NORTH[9..471])?);
-    for part in [CHARACTERS, EMPTY_NAME, TWO_CLASSES] {
-        let text = full_model(alloc, &[part])?;
-        assert!(rt; is_written_again(alloc, text.as_slice())?);
-    }
+    assert!(rt; is_written_again(rt.alloc(), bare_base())?);
+    assert!(rt; is_written_again(rt.alloc(), north())?);
+    assert!(rt; are_parts_written_again(rt.alloc())?);
     Ok(())
 }
 
 #[test]
 fn differences_are_written_again(rt: HostRuntime) -> Result<(), Fail> {
-    let alloc = rt.alloc();
-    assert!(rt; is_written_again(alloc, &RENAMED[492..1570])?);
-    assert!(rt; is_written_again(alloc, &ANOTHER_NAME[491..1477])?);
-    assert!(rt; is_written_again(alloc, &ANOTHER_NAME[1497..2487])?);
+    assert!(rt; is_written_again(rt.alloc(), renamed())?);
+    assert!(rt; is_written_again(rt.alloc(), another_name())?);
+    assert!(rt; is_written_again(rt.alloc(), same_name())?);
     Ok(())
 }
 
@@ -74,20 +92,45 @@ pub fn full_of(model: Option<Document>) -> Option<Full> {
     }
 }
 
-#[test]
-fn a_time_of_creation_is_read_and_written(rt: HostRuntime) -> Result<(), Fail> {
-    let alloc = rt.alloc();
-    let with_time = full_model(alloc, &[CREATED, EQUIPMENT])?;
-    let without_time = full_model(alloc, &[EQUIPMENT])?;
-    match full_of(read(alloc, with_time.as_slice())?) {
+/// What the full model with these parts states.
+pub fn stated(alloc: Global, parts: &[&[u8]]) -> Result<Option<Full>, NoMemory> {
+    let text = full_model(alloc, parts)?;
+    Ok(full_of(read(alloc, &text)?))
+}
+
+/// Whether the model is written as the full model with these parts.
+pub fn is_written_as(alloc: Global, full: &Full, parts: &[&[u8]]) -> Result<bool, NoMemory> {
+    let text = full_model(alloc, parts)?;
+    Ok(write_full(alloc, full)? == text)
+}
+
+/// Whether the model says that it was made at this time.
+fn is_made_at(full: &Full, time: &[u8]) -> bool {
+    match &full.header.created {
+        Some(created) => created.as_slice() == time,
+        None => false,
+    }
+}
+
+/// Whether the model says when it was made, and is [`EQUIPMENT`] where it does not.
+fn is_equipment_with_time(alloc: Global, full: &mut Full) -> Result<bool, NoMemory> {
+    let is_said = is_made_at(full, b"2026-11-02T08:00:00Z");
+    full.header.created = None;
+    Ok(is_said && is_written_as(alloc, full, &[EQUIPMENT])?)
+}
+
+fn is_time_read_and_written(alloc: Global) -> Result<bool, NoMemory> {
+    match stated(alloc, &[CREATED, EQUIPMENT])? {
         Some(full) => {
             let mut full = full;
-            let created = Some(Literal::new(alloc, b"2026-11-02T08:00:00Z")?);
-            assert!(rt; full.header.created == created);
-            full.header.created = None;
-            assert!(rt; write_full(alloc, &full)? == without_time);
+            is_equipment_with_time(alloc, &mut full)
         }
-        None => assert!(rt; false),
+        None => Ok(false),
     }
+}
+
+#[test]
+fn a_time_of_creation_is_read_and_written(rt: HostRuntime) -> Result<(), Fail> {
+    assert!(rt; is_time_read_and_written(rt.alloc())?);
     Ok(())
 }

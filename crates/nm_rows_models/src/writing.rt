@@ -1,11 +1,11 @@
 //! How models are spelt: prefixes, groups, references and headers.
-use crate::documents::{full_of, is_written_again, read};
-use crate::models::BASE;
+use crate::documents::{
+    is_canonical, is_full_model_written_again, is_written_again, is_written_as, stated,
+};
+use crate::models::{BASE, north};
 use nm_ident::{Ids, NoMemory, Text, Texts};
-use nm_model::Header;
-use nm_samples::{NORTH, full_model};
+use nm_model::{Full, Header};
 use nm_statement::Literal;
-use nm_writer::write_full;
 use std::alloc::Global;
 use std::test::Fail;
 
@@ -54,11 +54,9 @@ const REFERENCES: &[u8] = br##"<?xml version="1.0" encoding="UTF-8"?>
 
 #[test]
 fn spellings_are_written_again(rt: HostRuntime) -> Result<(), Fail> {
-    let alloc = rt.alloc();
-    assert!(rt; is_written_again(alloc, PREFIXES)?);
-    assert!(rt; is_written_again(alloc, REFERENCES)?);
-    let groups = full_model(alloc, &[GROUPS])?;
-    assert!(rt; is_written_again(alloc, groups.as_slice())?);
+    assert!(rt; is_written_again(rt.alloc(), PREFIXES)?);
+    assert!(rt; is_written_again(rt.alloc(), REFERENCES)?);
+    assert!(rt; is_full_model_written_again(rt.alloc(), &[GROUPS])?);
     Ok(())
 }
 
@@ -81,60 +79,95 @@ const HEADER: &[u8] = br##"<md:Model.created>2026-11-02T08:00:00Z</md:Model.crea
 <md:Model.Supersedes rdf:resource="urn:uuid:10000000-0000-4000-8000-000000000001"/>
 "##;
 
-fn literal(alloc: Global, text: &[u8]) -> Result<Option<Literal>, Fail> {
-    Ok(Some(Literal::new(alloc, text)?))
+fn say(alloc: Global, property: &mut Option<Literal>, text: &[u8]) -> Result<(), Fail> {
+    *property = Some(Literal::new(alloc, text)?);
+    Ok(())
 }
 
-fn ids(alloc: Global, list: &[u128]) -> Result<Ids, NoMemory> {
-    Ok(Ids::of_list(list.to_vec(alloc)?))
+fn say_texts(alloc: Global, header: &mut Header) -> Result<(), Fail> {
+    say(alloc, &mut header.created, b"2026-11-02T08:00:00Z")?;
+    say(alloc, &mut header.scenario_time, b"2027-01-01T00:00:00Z")?;
+    say(alloc, &mut header.version, b"4")?;
+    say(alloc, &mut header.description, b"as > built")?;
+    say(alloc, &mut header.authority, b"http://a.org/")
 }
 
-fn header(alloc: Global) -> Result<Header, Fail> {
-    let mut profiles = Vec::new(alloc);
-    profiles.push(Text::of_slice(alloc, b"http://entsoe.eu/CIM/EquipmentCore/3/1")?)?;
-    Ok(Header {
-        id: BASE,
-        created: literal(alloc, b"2026-11-02T08:00:00Z")?,
-        scenario_time: literal(alloc, b"2027-01-01T00:00:00Z")?,
-        version: literal(alloc, b"4")?,
-        description: literal(alloc, b"as > built")?,
-        authority: literal(alloc, b"http://a.org/")?,
-        profiles: Texts::of_list(profiles),
-        depends: ids(alloc, &[0x30000000_0000_4000_8000_000000000004])?,
-        supersedes: ids(alloc, &[1, BASE])?,
-    })
+fn say_profile(alloc: Global, profiles: &mut Texts, text: &[u8]) -> Result<(), NoMemory> {
+    let mut list = Vec::new(alloc);
+    list.push(Text::of_slice(alloc, text)?)?;
+    *profiles = Texts::of_list(list);
+    Ok(())
+}
+
+fn say_ids(alloc: Global, ids: &mut Ids, list: &[u128]) -> Result<(), NoMemory> {
+    *ids = Ids::of_list(list.to_vec(alloc)?);
+    Ok(())
+}
+
+fn say_lists(alloc: Global, header: &mut Header) -> Result<(), NoMemory> {
+    say_profile(
+        alloc,
+        &mut header.profiles,
+        b"http://entsoe.eu/CIM/EquipmentCore/3/1",
+    )?;
+    say_ids(
+        alloc,
+        &mut header.depends,
+        &[0x30000000_0000_4000_8000_000000000004],
+    )?;
+    say_ids(alloc, &mut header.supersedes, &[1, BASE])
+}
+
+/// Whether the model, once its header says all that it can, is written so.
+fn is_written_with_all(alloc: Global, full: &mut Full) -> Result<bool, Fail> {
+    say_texts(alloc, &mut full.header)?;
+    say_lists(alloc, &mut full.header)?;
+    Ok(is_written_as(alloc, full, &[HEADER, LIMIT])?)
+}
+
+fn is_header_written(alloc: Global) -> Result<bool, Fail> {
+    match stated(alloc, &[LIMIT])? {
+        Some(full) => {
+            let mut full = full;
+            is_written_with_all(alloc, &mut full)
+        }
+        None => Ok(false),
+    }
 }
 
 #[test]
 fn all_properties_of_a_header_are_written(rt: HostRuntime) -> Result<(), Fail> {
-    let alloc = rt.alloc();
-    let bare = full_model(alloc, &[LIMIT])?;
-    let text = full_model(alloc, &[HEADER, LIMIT])?;
-    match full_of(read(alloc, bare.as_slice())?) {
-        Some(full) => {
-            let mut full = full;
-            full.header = header(alloc)?;
-            assert!(rt; write_full(alloc, &full)? == text);
-        }
-        None => assert!(rt; false),
-    }
+    assert!(rt; is_header_written(rt.alloc())?);
     Ok(())
+}
+
+/// The document without the byte at the place.
+fn without(alloc: Global, document: &[u8], place: usize) -> Result<Vec<u8>, NoMemory> {
+    let mut text = Vec::new(alloc);
+    for (at, byte) in document.iter().enumerate() {
+        if at != place {
+            text.push(*byte)?;
+        }
+    }
+    Ok(text)
+}
+
+/// How many of the texts that are a byte shorter than the document are a model's.
+fn count_models(alloc: Global, document: &[u8]) -> Result<u32, NoMemory> {
+    let mut models = 0u32;
+    for place in 0..document.len() {
+        let text = without(alloc, document, place)?;
+        if is_canonical(alloc, &text)? {
+            models = models.saturating_add(1);
+        }
+    }
+    Ok(models)
 }
 
 #[test]
 fn a_byte_less_is_another_model_or_none(rt: HostRuntime) -> Result<(), Fail> {
-    let alloc = rt.alloc();
-    let document = &NORTH[9..471];
-    let mut models = 0u32;
-    for place in 0..document.len() {
-        let mut text = document[..place].to_vec(alloc)?;
-        text.extend_from_slice(&document[place + 1..])?;
-        if read(alloc, text.as_slice())?.is_some() {
-            models = models.saturating_add(1);
-        }
-    }
     // One less of the name's 5 bytes, of the identity's 36 digits and hyphens, or of the 21 bytes
     // of the namespace between `http://iec.ch/TC57/` and `#`.
-    assert_eq!(rt; models, 62);
+    assert_eq!(rt; count_models(rt.alloc(), north())?, 62);
     Ok(())
 }
