@@ -25,6 +25,5 @@ mod plan;
 mod rest;
 mod steady;
 mod steps;
-#[cfg(test)]
-mod tests;
+mod threads;
 mod vector;

@@ -8,11 +8,9 @@ mod day;
 mod error;
 mod key;
 mod laws;
+mod threads;
 
 pub use day::Day;
 pub use error::NotADay;
 pub use key::Key;
 pub use laws::{days_are_ordered, days_read_back, keys_are_ordered};
-
-#[cfg(test)]
-mod tests;

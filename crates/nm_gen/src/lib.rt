@@ -13,6 +13,3 @@ mod terms;
 
 pub use limits::MOST_PROJECTS;
 pub use stream::generate;
-
-#[cfg(test)]
-mod tests;

@@ -10,6 +10,7 @@ mod ids;
 mod laws;
 mod name;
 mod text;
+mod threads;
 mod uuid_text;
 
 pub use error::{IdentError, NameError, NoMemory};
@@ -25,6 +26,3 @@ pub use name::{
 };
 pub use text::{Text, Texts};
 pub use uuid_text::{id_text, model_id};
-
-#[cfg(test)]
-mod tests;

@@ -12,6 +12,3 @@ pub use limits::{
     LONGEST_DOCUMENT, MOST_CHANGES, MOST_DEPENDENCIES, MOST_PROFILES, MOST_STATEMENTS,
     MOST_SUPERSEDED,
 };
-
-#[cfg(test)]
-mod tests;

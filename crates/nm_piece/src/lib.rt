@@ -16,8 +16,6 @@ mod quotes;
 mod raw;
 mod reading;
 mod runs;
-#[cfg(test)]
-mod tests;
 mod tokens;
 mod unread;
 

@@ -10,10 +10,8 @@ mod laws;
 mod live;
 mod order;
 mod project;
+mod threads;
 
 pub use laws::{lists_stay_live, live_projects_stand_in_order, projects_can_join};
 pub use live::Live;
 pub use project::{Project, Step};
-
-#[cfg(test)]
-mod tests;

@@ -12,6 +12,7 @@ mod object;
 mod report;
 mod set;
 mod statement;
+mod threads;
 
 pub use error::TextError;
 pub use laws::{members_make_sets, sets_have_members, statements_are_ordered};
@@ -20,6 +21,3 @@ pub use object::{LONGEST_IRI, Object};
 pub use report::line;
 pub use set::{Change, Set, SetIter};
 pub use statement::Statement;
-
-#[cfg(test)]
-mod tests;

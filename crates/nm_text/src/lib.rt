@@ -28,6 +28,3 @@ pub use reference::{begins_reference, reference_at};
 pub use sound::are_references_sound;
 pub use split::split_before;
 pub use white::{is_white, is_white_text};
-
-#[cfg(test)]
-mod tests;

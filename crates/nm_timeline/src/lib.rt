@@ -3,9 +3,7 @@
 
 mod laws;
 mod part;
+mod threads;
 
 pub use laws::parts_are_ordered;
 pub use part::Part;
-
-#[cfg(test)]
-mod tests;

@@ -1,7 +1,8 @@
+//! Generated streams.
 ghost use Rattle.nm_gen.specs.Limits.{most_projects};
 ghost use Rattle.std.specs.Prelude.{◌≤◌};
 
-use super::*;
+use nm_gen::{MOST_PROJECTS, generate};
 use nm_ident::NoMemory;
 use sha1::Sha1;
 use std::alloc::Global;

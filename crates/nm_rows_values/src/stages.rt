@@ -1,10 +1,11 @@
+//! Live projects, their steps, and dependencies that are not met.
 ghost use Rattle.nm_stage.specs.Live.{CanJoin};
 ghost use Rattle.nm_stage.specs.Project.{PlainProject};
 ghost use Rattle.std.specs.Prelude.{◌≡◌, ◌∷◌, [], IfOk, map};
 
-use super::*;
 use nm_day::Day;
 use nm_ident::Ids;
+use nm_stage::{Live, Project};
 use nm_statement::{Change, Set};
 use std::alloc::Global;
 use std::sync::Arc;
@@ -95,13 +96,4 @@ fn a_dependency_is_met_by_what_is_known_and_by_earlier_steps(rt: HostRuntime) ->
     let (key, id) = live.missing(alloc, &known)?.ok_or("none")?;
     assert_eq!(rt; (key.filing, id), (2, 30));
     Ok(())
-}
-
-fn crosses_threads<T: Send + Sync>() {}
-
-#[test]
-fn projects_and_lists_cross_threads() {
-    crosses_threads::<Project>();
-    crosses_threads::<Step>();
-    crosses_threads::<Live>();
 }

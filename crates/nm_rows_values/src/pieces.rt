@@ -1,5 +1,5 @@
-//! Tokens of whole inputs, and pieces copied from them.
-use crate::{Piece, PieceError, Token, Unread, next, token};
+//! Tokens of whole inputs, and what is no token.
+use nm_piece::{Unread, token};
 use std::test::Fail;
 
 /// How many tokens the input is cut into, and how many bytes are left.

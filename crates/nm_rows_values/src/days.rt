@@ -1,4 +1,5 @@
-use super::*;
+//! Days of the calendar, and keys.
+use nm_day::{Day, Key};
 use std::test::Fail;
 
 #[test]
@@ -67,12 +68,4 @@ fn keys_stand_by_day_and_filing_and_stage(rt: HostRuntime) -> Result<(), Fail> {
     assert!(rt; key(later, 2, 0) < key(later, 2, 1));
     assert_eq!(rt; key(later, 2, 1), key(later, 2, 1));
     Ok(())
-}
-
-fn crosses_threads<T: Send + Sync>() {}
-
-#[test]
-fn days_and_keys_cross_threads() {
-    crosses_threads::<Day>();
-    crosses_threads::<Key>();
 }

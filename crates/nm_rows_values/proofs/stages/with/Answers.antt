@@ -1,7 +1,7 @@
 use Rattle.std.proofs.Common.{◌∙◌, ◌++◌, ◌∷◌, [], sym, subst, ap}
 use Rattle.nm_stage.specs.Live.{IsLive, holds}
 use Rattle.nm_stage.proofs.Joins.{joins_alone}
-use Rattle.nm_stage.proofs.tests.with.Goals as goal
+use Rattle.nm_rows_values.proofs.stages.with.Goals as goal
 
 pub with-requires : goal.with-requires
 with-requires c =

@@ -1,4 +1,7 @@
-use crate::*;
+//! Identifiers of resources and models, and names.
+use nm_ident::{
+    Ident, IdentError, Ids, Name, NameError, NoMemory, Target, Text, Texts, id_text, model_id,
+};
 use std::alloc::Global;
 use std::test::Fail;
 
@@ -103,20 +106,5 @@ fn says_what_was_refused(rt: HostRuntime) -> Result<(), Fail> {
         format!(in rt.alloc(); "{}", NameError::NoMemory)?.as_str(),
         "out of memory"
     );
-    Ok(())
-}
-
-fn goes_between_threads<T: Send + Sync>(_: &T) {}
-
-#[test]
-fn threads_share_the_types(rt: HostRuntime) -> Result<(), Fail> {
-    goes_between_threads(&Text::of_slice(rt.alloc(), b"a")?);
-    goes_between_threads(&Texts::of_list(Vec::new(rt.alloc())));
-    goes_between_threads(&Ids::of_list(Vec::new(rt.alloc())));
-    goes_between_threads(&Ident::Uuid(1));
-    goes_between_threads(&Target::Ident(Ident::Uuid(1)));
-    goes_between_threads(&Name::new(rt.alloc(), CIM, b"a")?);
-    goes_between_threads(&IdentError::Bad);
-    goes_between_threads(&NameError::Bad);
     Ok(())
 }

@@ -1,5 +1,6 @@
-use crate::Header;
+//! Headers of models: what they depend on, and which are sound.
 use nm_ident::{Ids, Texts};
+use nm_model::Header;
 use std::alloc::{AllocError, Global};
 use std::test::Fail;
 

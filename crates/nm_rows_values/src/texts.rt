@@ -1,4 +1,8 @@
-use crate::*;
+//! Texts of XML: references, ends of lines, escapes and characters.
+use nm_text::{
+    Place, RefError, append_attribute, append_run, escape_attribute, escape_text, is_text,
+    is_white_text, normal_lines, read_attribute, read_references, read_run,
+};
 use std::test::Fail;
 
 #[test]

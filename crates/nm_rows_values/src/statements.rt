@@ -1,5 +1,6 @@
-use crate::*;
+//! Literals, objects, reports of statements, and sets.
 use nm_ident::{Ident, Name, Target, Text};
+use nm_statement::{Change, Literal, Object, Set, Statement, TextError, line};
 use std::alloc::Global;
 use std::test::Fail;
 
@@ -105,19 +106,15 @@ fn sets_are_joined_and_taken_away(rt: HostRuntime) -> Result<(), Fail> {
     Ok(())
 }
 
-fn is_shared<T: Send + Sync>(value: &T) -> &T {
-    value
-}
-
 #[test]
-fn changes_are_copied_and_shared_among_threads(rt: HostRuntime) -> Result<(), Fail> {
+fn changes_are_copied(rt: HostRuntime) -> Result<(), Fail> {
     let alloc = rt.alloc();
     let change = Change {
         pre: names(alloc, &[])?,
         rev: names(alloc, &[(1, b"North")])?,
         fwd: names(alloc, &[(1, b"South")])?,
     };
-    let copy = is_shared(&change).copy(alloc)?;
+    let copy = change.copy(alloc)?;
     assert!(rt; copy.pre.is_empty());
     assert_eq!(rt; copy.rev.as_slice(), change.rev.as_slice());
     assert_eq!(rt; copy.fwd.as_slice(), change.fwd.as_slice());

@@ -1,7 +1,11 @@
+//! Sources and sinks: over a reader and a writer, and in memory.
 ghost use Rattle.std.specs.Prelude.{◌≤◌, length, IsOk};
 ghost use Rattle.nm_base.specs.SteadySink.{room_left};
 
-use super::*;
+use nm_base::{
+    Failed, MemorySink, MemorySource, ReadSource, Sink, Source, Status, SteadySink, SteadySource,
+    WriteSink, write_whole,
+};
 use std::alloc::Global;
 use std::io;
 use std::io::{ErrorKind, Read, Write};
@@ -164,20 +168,4 @@ fn write_fitting(sink: &mut SteadySink, text: &[u8]) -> Result<(), Failed>
 #[test]
 fn a_run_ends_with_the_number_of_its_status(rt: HostRuntime) {
     assert_eq!(rt; Status::DoorFault.code(), 10);
-}
-
-fn needs_send<T: Send>() {}
-
-fn adapters_are_send<R: Send, W: Send>() {
-    needs_send::<ReadSource<R>>();
-    needs_send::<WriteSink<W>>();
-}
-
-#[test]
-fn what_holds_bytes_may_change_threads() {
-    needs_send::<MemorySource>();
-    needs_send::<MemorySink>();
-    needs_send::<SteadySource>();
-    needs_send::<SteadySink>();
-    adapters_are_send::<io::Empty, io::Sink>();
 }

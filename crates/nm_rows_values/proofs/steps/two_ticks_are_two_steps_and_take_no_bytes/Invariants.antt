@@ -1,4 +1,4 @@
-use Rattle.nm_base.proofs.steps.tests.two_ticks_are_two_steps_and_take_no_bytes.Given as goal
+use Rattle.nm_rows_values.proofs.steps.two_ticks_are_two_steps_and_take_no_bytes.Given as goal
 
 abbrev pub ghosts-count_two : goal.ghosts-count_two
 ghosts-count_two g a = record { name = a.blank.name; parts = a.blank.parts }

@@ -1,0 +1,24 @@
+//! What single crates below the program do, as tests, and that they have memory enough to do it:
+//! bytes, texts, identifiers, pieces, statements, headers, days, projects and generated streams.
+#![tactic(auto)]
+
+#[cfg(test)]
+mod bytes;
+#[cfg(test)]
+mod days;
+#[cfg(test)]
+mod identifiers;
+#[cfg(test)]
+mod models;
+#[cfg(test)]
+mod pieces;
+#[cfg(test)]
+mod stages;
+#[cfg(test)]
+mod statements;
+#[cfg(test)]
+mod steps;
+#[cfg(test)]
+mod streams;
+#[cfg(test)]
+mod texts;
