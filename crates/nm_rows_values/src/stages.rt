@@ -1,8 +1,4 @@
 //! Live projects, their steps, and dependencies that are not met.
-ghost use Rattle.nm_stage.specs.Live.{CanJoin};
-ghost use Rattle.nm_stage.specs.Project.{PlainProject};
-ghost use Rattle.std.specs.Prelude.{◌≡◌, ◌∷◌, [], IfOk, map};
-
 use nm_day::Day;
 use nm_ident::Ids;
 use nm_stage::{Live, Project};
@@ -58,19 +54,39 @@ fn filings(alloc: Global, live: &Live) -> Result<Vec<u32>, Fail> {
     Ok(filings)
 }
 
-#[test]
-fn projects_stand_by_filing_number_and_steps_by_day(rt: HostRuntime) -> Result<(), Fail> {
-    let alloc = rt.alloc();
-    let live = Live::empty(alloc);
-    let live = with(alloc, &live, 3, b"2027-06-01", 30, &[])?;
-    let live = with(alloc, &live, 1, b"2027-06-01", 10, &[])?;
-    let live = with(alloc, &live, 2, b"2027-04-01", 20, &[])?;
-    assert_eq!(rt; filings(alloc, &live)?.as_slice(), [1, 2, 3].as_slice());
+/// The models of the steps, in their order.
+fn models_of(alloc: Global, live: &Live) -> Result<Vec<u128>, Fail> {
     let mut models = Vec::new(alloc);
     for step in live.steps(alloc)? {
         models.push(step.model)?;
     }
-    assert_eq!(rt; models.as_slice(), [20, 10, 30].as_slice());
+    Ok(models)
+}
+
+/// Projects of filing numbers 1 to 3, the second of which comes into service first.
+fn three_projects(alloc: Global) -> Result<Live, Fail> {
+    let live = Live::empty(alloc);
+    let live = with(alloc, &live, 3, b"2027-06-01", 30, &[])?;
+    let live = with(alloc, &live, 1, b"2027-06-01", 10, &[])?;
+    with(alloc, &live, 2, b"2027-04-01", 20, &[])
+}
+
+#[test]
+fn projects_stand_by_filing_number_and_steps_by_day(rt: HostRuntime) -> Result<(), Fail> {
+    let alloc = rt.alloc();
+    let live = three_projects(alloc)?;
+    assert_eq!(rt; filings(alloc, &live)?.as_slice(), [1, 2, 3].as_slice());
+    assert_eq!(rt;
+        models_of(alloc, &live)?.as_slice(),
+        [20, 10, 30].as_slice()
+    );
+    Ok(())
+}
+
+#[test]
+fn a_project_is_redated_and_taken_out(rt: HostRuntime) -> Result<(), Fail> {
+    let alloc = rt.alloc();
+    let live = three_projects(alloc)?;
     let redated = with(alloc, &live, 2, b"2027-07-01", 20, &[])?;
     assert_eq!(rt; redated.len(), 3);
     assert_eq!(rt;
