@@ -1,5 +1,5 @@
 // One command of a session: its reply, and the state after it.
-ghost use Rattle.nm_session.specs.Reply.{document_reply, lines_reply, log_reply, projects_reply, statements_reply, summary_reply};
+ghost use Rattle.nm_session.specs.Reply.{document_reply, lines_reply, log_reply, numbered as numbered_reply, projects_reply, statements_reply, summary_reply};
 ghost use Rattle.nm_session.specs.PlainWord.{plain};
 ghost use Rattle.nm_session.specs.Turn as spec;
 ghost use Rattle.nm_version.specs.Objects.{object_at};
@@ -15,7 +15,7 @@ ghost use Rattle.nm_version.specs.Listing.{log_of};
 ghost use Rattle.nm_version.specs.Projects.{rows_of};
 ghost use Rattle.nm_version.specs.Replay.{statements_at};
 ghost use Rattle.nm_writer.specs.Canonical.{canonical_full};
-ghost use Rattle.std.specs.Prelude.{◌≡◌, IfOk, IsTrue, OnErr, Some, length};
+ghost use Rattle.std.specs.Prelude.{◌≡◌, IfOk, IsTrue, None, OnErr, Some, codes, length};
 
 use crate::answer::{lines_told, numbered, projects, statements_told, summary, with_length};
 use crate::body::Body;
@@ -89,21 +89,33 @@ pub fn step(alloc: Global, state: &mut State, word: &Word, body: Body) -> Result
     ensures err { OnErr result (state.new ≡ state.old) }
 {
     match state {
-        State::Empty => match word {
-            Word::Base { .. } => take_base(alloc, state, body),
-            Word::End => Ok(Reply::of_list(numbered(alloc, b"end", 0)?)),
-            Word::File { .. }
-            | Word::Revise { .. }
-            | Word::Redate { .. }
-            | Word::Withdraw { .. }
-            | Word::Assemble { .. }
-            | Word::Object { .. }
-            | Word::Timeline { .. }
-            | Word::Projects
-            | Word::Log
-            | Word::Summary { .. } => unreachable!(),
-        },
+        State::Empty => begin(alloc, state, word, body),
         State::Store(version) => answer(alloc, version, word, body),
+    }
+}
+
+/// The reply to a command where there is no base.
+fn begin(alloc: Global, state: &mut State, word: &Word, body: Body) -> Result<Reply, NoMemory>
+    requires first { state.old ≡ state_of.Empty }
+    requires allowed { IsTrue (spec.allows state_of.Empty (plain word.now)) }
+    requires body { IsBodyOf (length_asked (plain word.now)) body }
+    ensures ok { IfOk result (λ reply. (reply ≡ (spec.turn_with state_of.Empty (plain word.now) body).reply)
+        × (state.new ≡ (spec.turn_with state_of.Empty (plain word.now) body).state)) }
+    ensures err { OnErr result (state.new ≡ state.old) }
+{
+    match word {
+        Word::Base { .. } => take_base(alloc, state, body),
+        Word::End => ended(alloc, 0),
+        Word::File { .. }
+        | Word::Revise { .. }
+        | Word::Redate { .. }
+        | Word::Withdraw { .. }
+        | Word::Assemble { .. }
+        | Word::Object { .. }
+        | Word::Timeline { .. }
+        | Word::Projects
+        | Word::Log
+        | Word::Summary { .. } => unreachable!(),
     }
 }
 
@@ -119,6 +131,30 @@ fn answer(alloc: Global, version: &mut Version, word: &Word, body: Body) -> Resu
     match word {
         Word::File { day, .. } => file(alloc, version, *day, body),
         Word::Revise { project, .. } => revise(alloc, version, *project, body),
+        Word::Redate { .. }
+        | Word::Withdraw { .. }
+        | Word::Assemble { .. }
+        | Word::Object { .. }
+        | Word::Timeline { .. }
+        | Word::Projects
+        | Word::Log
+        | Word::Summary { .. }
+        | Word::End => answer_line(alloc, version, word),
+        Word::Base { .. } => unreachable!(),
+    }
+}
+
+/// The reply to a command without a document where there is a base.
+// Apart from the commands with one, so that a document that may be there is dropped at one place.
+fn answer_line(alloc: Global, version: &mut Version, word: &Word) -> Result<Reply, NoMemory>
+    requires allowed { IsTrue (spec.allows (state_of.Store version.old) (plain word.now)) }
+    requires alone { length_asked (plain word.now) ≡ None }
+    requires named { IsTrue (is_named (plain word.now)) }
+    ensures ok { IfOk result (λ reply. (reply ≡ (spec.turn_with (state_of.Store version.old) (plain word.now) absent.Absent).reply)
+        × (state_of.Store version.new ≡ (spec.turn_with (state_of.Store version.old) (plain word.now) absent.Absent).state)) }
+    ensures err { OnErr result (version.new ≡ version.old) }
+{
+    match word {
         Word::Redate { project, day } => {
             let (project, day) = (*project, *day);
             commit(alloc, version, Command::Redate { project, day })
@@ -133,9 +169,16 @@ fn answer(alloc: Global, version: &mut Version, word: &Word, body: Body) -> Resu
         | Word::Projects
         | Word::Log
         | Word::Summary { .. } => query(alloc, version, word),
-        Word::End => Ok(Reply::of_list(numbered(alloc, b"end", u64::from(version.number()))?)),
-        Word::Base { .. } => unreachable!(),
+        Word::End => ended(alloc, u64::from(version.number())),
+        Word::Base { .. } | Word::File { .. } | Word::Revise { .. } => unreachable!(),
     }
+}
+
+/// The reply to `end` after so many commands.
+fn ended(alloc: Global, number: u64) -> Result<Reply, NoMemory>
+    ensures { IfOk result (λ reply. reply ≡ numbered_reply (codes "end") number) }
+{
+    Ok(Reply::of_list(numbered(alloc, b"end", number)?))
 }
 
 /// The reply to a command that changes nothing, which is that of [`step`] over this version. The
@@ -170,13 +213,20 @@ fn answer_text(alloc: Global, version: &Version, word: &Word) -> Result<Vec<u8>,
     }
 }
 
-/// The model of a day.
+/// The model of a day, with its length before it.
 fn assembled(alloc: Global, version: &Version, day: Day) -> Result<Vec<u8>, NoMemory>
     ensures { IfOk result (λ reply. reply.items ≡ document_reply (canonical_full (assembly version.now.base version.now.live day))) }
 {
-    let full = version.assemble(alloc, day)?;
-    let document = write_full(alloc, &full)?;
+    let document = document_of_day(alloc, version, day)?;
     with_length(alloc, b"document", &document)
+}
+
+/// The canonical document of a day's model, which is dropped once it is written.
+fn document_of_day(alloc: Global, version: &Version, day: Day) -> Result<Vec<u8>, NoMemory>
+    ensures { IfOk result (λ document. document.items ≡ canonical_full (assembly version.now.base version.now.live day)) }
+{
+    let full = version.assemble(alloc, day)?;
+    write_full(alloc, &full)
 }
 
 /// The counts of a day.

@@ -7,6 +7,7 @@ ghost use Rattle.nm_version.specs.Kept.{number_of};
 ghost use Rattle.nm_version.specs.Limits.{most_commits};
 ghost use Rattle.nm_version.specs.Refusal as refused;
 ghost use Rattle.nm_model.specs.Header.{dependencies_of};
+ghost use Rattle.std.specs.Arc.{arc_value};
 ghost use Rattle.std.specs.List.{filter};
 ghost use Rattle.std.specs.Prelude.{◌≡◌, ◌+◌, ◌<◌, ◌==◌, ◌++◌, ◌∷◌, [], IfOk, None, Some, not, false};
 
@@ -17,6 +18,7 @@ use nm_day::Day;
 use nm_ident::Ids;
 use nm_model::{Difference, Document, Header};
 use nm_stage::{Live, Project, projects_can_join};
+use nm_statement::Change;
 use std::alloc::Global;
 use std::sync::Arc;
 
@@ -122,14 +124,27 @@ fn project_filed(
 ) -> Result<Project, NoMemory>
     ensures { IfOk result (λ project. project ≡ spec.project_filed number day difference) }
 {
-    let mut lineage = Vec::with_capacity(alloc, 1)?;
-    lineage.push(difference.header.id)?;
+    let Difference { header, change } = difference;
+    let change = Arc::new(alloc, change)?;
+    new_project(alloc, number, day, &header, change)
+}
+
+/// A new project with this header and change.
+fn new_project(
+    alloc: Global,
+    number: u32,
+    day: Day,
+    header: &Header,
+    change: Arc<Change, Global>,
+) -> Result<Project, NoMemory>
+    ensures { IfOk result (λ project. project ≡ spec.project_filed number day (record { header = header.now; change = arc_value change })) }
+{
     Ok(Project {
         filing: number,
-        lineage: Ids::of_list(lineage),
+        lineage: with_id(alloc, &[], header.id)?,
         day,
-        dependencies: difference.header.dependencies(alloc)?,
-        change: Arc::new(alloc, difference.change)?,
+        dependencies: header.dependencies(alloc)?,
+        change,
     })
 }
 
@@ -141,19 +156,34 @@ fn project_revised(
 ) -> Result<Project, NoMemory>
     ensures { IfOk result (λ revised. revised ≡ spec.project_revised difference project.now) }
 {
+    let Difference { header, change } = difference;
+    let change = Arc::new(alloc, change)?;
+    next_project(alloc, project, &header, change)
+}
+
+/// The project with this header and change in the place of its current ones.
+fn next_project(
+    alloc: Global,
+    project: &Project,
+    header: &Header,
+    change: Arc<Change, Global>,
+) -> Result<Project, NoMemory>
+    ensures { IfOk result (λ revised. revised ≡ spec.project_revised (record { header = header.now; change = arc_value change }) project.now) }
+{
     Ok(Project {
         filing: project.filing,
-        lineage: with_id(alloc, &project.lineage, difference.header.id)?,
+        lineage: with_id(alloc, project.lineage.as_slice(), header.id)?,
         day: project.day,
-        dependencies: other_dependencies(alloc, &difference.header, project.model())?,
-        change: Arc::new(alloc, difference.change)?,
+        dependencies: other_dependencies(alloc, header, project.model())?,
+        change,
     })
 }
 
-fn with_id(alloc: Global, ids: &Ids, id: u128) -> Result<Ids, NoMemory>
+/// The identifiers, and one more.
+fn with_id(alloc: Global, ids: &[u128], id: u128) -> Result<Ids, NoMemory>
     ensures { IfOk result (λ more. more ≡ ids.now ++ id ∷ []) }
 {
-    let mut more = ids.as_slice().to_vec(alloc)?;
+    let mut more = ids.to_vec(alloc)?;
     more.push(id)?;
     Ok(Ids::of_list(more))
 }

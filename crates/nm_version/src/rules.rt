@@ -1,4 +1,5 @@
 // When a command is refused, as far as no replay is needed.
+ghost use Rattle.nm_stage.specs.Live.{project_of};
 ghost use Rattle.nm_stage.specs.Project.{has_id};
 ghost use Rattle.nm_version.specs.Command.{document_brought, header_of, project_named};
 ghost use Rattle.nm_version.specs.Refusal as spec;
@@ -32,6 +33,12 @@ impl Version {
         ensures { result ≡ spec.unknown_refusal self.now command.now }
     {
         let project = command.project()?;
+        self.refusal_if_unknown(project)
+    }
+
+    fn refusal_if_unknown(&self, project: u128) -> Option<Refusal>
+        ensures { result ≡ spec.unknown_of project (project_of project self.now.live) }
+    {
         match self.live_projects().find(project) {
             Some(_) => None,
             None => Some(Refusal::Unknown(project)),

@@ -9,7 +9,7 @@ ghost use Rattle.nm_version.specs.Kept as kept;
 ghost use Rattle.nm_version.specs.Limits.{largest_store, most_commits};
 ghost use Rattle.nm_version.specs.Projects.{rows_of};
 ghost use Rattle.nm_version.specs.Refusal as refused;
-ghost use Rattle.std.specs.Prelude.{◌≡◌, ◌≤◌, IfOk, length};
+ghost use Rattle.std.specs.Prelude.{◌≡◌, ◌≤◌, IfOk, None, length};
 
 use crate::command::Command;
 use crate::log::Log;
@@ -122,6 +122,15 @@ impl Version {
         if let Some(refusal) = self.early_refusal(&command) {
             return Err(refusal);
         }
+        self.commit_unless_broken(alloc, command)
+    }
+
+    /// The version after a command that no rule before the replay refuses.
+    fn commit_unless_broken(&self, alloc: Global, command: Command) -> Result<Version, Refusal>
+        requires spelt { IsSpelt command }
+        requires early { refused.early_refusal self.now command ≡ None }
+        ensures { IsDue refused.wants_memory result (after.commit_of self.now command) }
+    {
         command.has_line();
         let size = self.size + command.document_size();
         let (live, entry) = self.changed(alloc, command)?;
