@@ -6,10 +6,10 @@ use nm_base::{
     Failed, MemorySink, MemorySource, ReadSource, Sink, Source, Status, SteadySink, SteadySource,
     WriteSink, write_whole,
 };
+use nm_ident::NoMemory;
 use std::alloc::Global;
 use std::io;
 use std::io::{ErrorKind, Read, Write};
-use std::test::Fail;
 
 /// A writer of two bytes a call, whose first calls may fail. It keeps how many bytes stood written
 /// at each flush.
@@ -81,13 +81,26 @@ impl Read for InterruptedReader {
     }
 }
 
+fn is_canon_written(writer: &mut SlowWriter) -> bool {
+    let mut sink = WriteSink::new(writer);
+    write_whole(&mut sink, b"canon") == Ok(())
+}
+
+fn holds_canon(writer: &SlowWriter) -> bool {
+    writer.written.as_slice() == b"canon".as_slice()
+        && writer.flushed.as_slice() == [2, 4, 5].as_slice()
+}
+
 #[test]
 fn a_write_sink_flushes_after_each_write(rt: HostRuntime) {
     let mut writer = slow_writer(rt.alloc());
-    let mut sink = WriteSink::new(&mut writer);
-    assert_eq!(rt; write_whole(&mut sink, b"canon"), Ok(()));
-    assert_eq!(rt; writer.written.as_slice(), b"canon".as_slice());
-    assert_eq!(rt; writer.flushed.as_slice(), [2, 4, 5].as_slice());
+    assert!(rt; is_canon_written(&mut writer) && holds_canon(&writer));
+}
+
+/// Whether two writes of a byte fail, and the third is done.
+fn fails_twice(writer: &mut SlowWriter) -> bool {
+    let mut sink = WriteSink::new(writer);
+    sink.write(b"x") == Err(Failed) && sink.write(b"x") == Err(Failed) && sink.write(b"x") == Ok(1)
 }
 
 #[test]
@@ -95,17 +108,14 @@ fn a_call_of_a_writer_is_not_tried_again(rt: HostRuntime) {
     let mut writer = slow_writer(rt.alloc());
     writer.failing_writes = 1;
     writer.failing_flushes = 1;
-    let mut sink = WriteSink::new(writer);
-    assert_eq!(rt; sink.write(b"x"), Err(Failed));
-    assert_eq!(rt; sink.write(b"x"), Err(Failed));
-    assert_eq!(rt; sink.write(b"x"), Ok(1));
+    assert!(rt; fails_twice(&mut writer));
 }
 
 #[test]
 fn a_full_writer_is_a_fault(rt: HostRuntime) {
     let mut full = WriteSink::new(FullWriter);
-    assert_eq!(rt; full.write(b""), Ok(0));
-    assert_eq!(rt; full.write(b"x"), Err(Failed));
+    assert!(rt; full.write(b"") == Ok(0));
+    assert!(rt; full.write(b"x") == Err(Failed));
 }
 
 #[test]
@@ -114,46 +124,85 @@ fn a_read_source_goes_on_after_a_fault(rt: HostRuntime) {
         was_interrupted: false,
     });
     let mut buf = [0; 8];
-    assert_eq!(rt; source.read(&mut buf), Err(Failed));
-    assert_eq!(rt; source.read(&mut buf), Ok(3));
-    assert_eq!(rt; buf[..3], b"end"[..]);
+    assert!(rt; source.read(&mut buf) == Err(Failed));
+    assert!(rt; source.read(&mut buf) == Ok(3));
+    assert!(rt; buf[..3] == b"end"[..]);
 }
 
-#[test]
-fn a_memory_source_fails_at_the_listed_calls(rt: HostRuntime) -> Result<(), Fail> {
-    let bytes = b"base".to_vec(rt.alloc())?;
-    let fails = vec![in rt.alloc(); 0, 2]?;
-    let mut source = MemorySource::new(rt.alloc(), bytes, fails);
+/// A source of four bytes, which fails at the first call and at the third.
+fn memory_source(alloc: Global) -> Result<MemorySource, NoMemory> {
+    let fails = vec![in alloc; 0, 2]?;
+    Ok(MemorySource::new(alloc, b"base".to_vec(alloc)?, fails))
+}
+
+fn fails(source: &mut MemorySource) -> bool {
+    source.read(&mut [0; 3]) == Err(Failed)
+}
+
+/// Whether these bytes are read into room for three.
+fn reads(source: &mut MemorySource, due: &[u8]) -> bool {
     let mut buf = [0; 3];
-    assert_eq!(rt; source.read(&mut buf), Err(Failed));
-    assert_eq!(rt; source.read(&mut buf), Ok(3));
-    assert_eq!(rt; buf, *b"bas");
-    assert_eq!(rt; source.read(&mut buf), Err(Failed));
-    assert_eq!(rt; source.read(&mut buf), Ok(1));
-    assert_eq!(rt; buf[0], b'e');
-    assert_eq!(rt; source.read(&mut buf), Ok(0));
-    Ok(())
+    match source.read(&mut buf) {
+        Ok(count) => &buf[..count] == due,
+        Err(Failed) => false,
+    }
+}
+
+fn fails_as_listed(source: &mut MemorySource) -> bool {
+    fails(source)
+        && reads(source, b"bas")
+        && fails(source)
+        && reads(source, b"e")
+        && reads(source, b"")
 }
 
 #[test]
-fn a_memory_sink_keeps_what_it_took(rt: HostRuntime) -> Result<(), Fail> {
-    let mut sink = MemorySink::new(rt.alloc(), vec![in rt.alloc(); 1]?);
-    assert_eq!(rt; write_whole(&mut sink, b"base"), Ok(()));
-    assert_eq!(rt; write_whole(&mut sink, b"lost"), Err(Failed));
-    assert_eq!(rt; write_whole(&mut sink, b"d"), Ok(()));
-    assert_eq!(rt; sink.bytes(), b"based".as_slice());
+fn a_memory_source_fails_at_the_listed_calls(rt: HostRuntime) -> Result<(), NoMemory> {
+    let mut source = memory_source(rt.alloc())?;
+    assert!(rt; fails_as_listed(&mut source));
     Ok(())
 }
 
+/// A sink in memory, which fails at the second call.
+fn memory_sink(alloc: Global) -> Result<MemorySink, NoMemory> {
+    Ok(MemorySink::new(alloc, vec![in alloc; 1]?))
+}
+
+fn keeps_what_it_took(sink: &mut MemorySink) -> bool {
+    write_whole(sink, b"base") == Ok(())
+        && write_whole(sink, b"lost") == Err(Failed)
+        && write_whole(sink, b"d") == Ok(())
+        && sink.bytes() == b"based".as_slice()
+}
+
 #[test]
-fn a_steady_pair_has_no_fault_within_its_room(rt: HostRuntime) -> Result<(), Fail> {
-    let mut source = SteadySource::new(rt.alloc(), b"end\n".to_vec(rt.alloc())?);
-    let mut buf = [0; 8];
-    assert_eq!(rt; source.read(&mut buf), Ok(4));
-    let mut sink = SteadySink::new(rt.alloc(), 6)?;
-    assert_eq!(rt; write_whole(&mut sink, b"end\n"), Ok(()));
-    assert_eq!(rt; write_whole(&mut sink, b"end\n"), Err(Failed));
-    assert_eq!(rt; sink.bytes(), b"end\nen".as_slice());
+fn a_memory_sink_keeps_what_it_took(rt: HostRuntime) -> Result<(), NoMemory> {
+    let mut sink = memory_sink(rt.alloc())?;
+    assert!(rt; keeps_what_it_took(&mut sink));
+    Ok(())
+}
+
+fn is_end_read(alloc: Global) -> Result<bool, NoMemory> {
+    let mut source = SteadySource::new(alloc, b"end\n".to_vec(alloc)?);
+    Ok(source.read(&mut [0; 8]) == Ok(4))
+}
+
+/// Whether the text fits once, and then a part of it.
+fn takes_one_and_a_half(sink: &mut SteadySink) -> bool {
+    write_whole(sink, b"end\n") == Ok(())
+        && write_whole(sink, b"end\n") == Err(Failed)
+        && sink.bytes() == b"end\nen".as_slice()
+}
+
+fn does_room_of_six_take_one_and_a_half(alloc: Global) -> Result<bool, NoMemory> {
+    let mut sink = SteadySink::new(alloc, 6)?;
+    Ok(takes_one_and_a_half(&mut sink))
+}
+
+#[test]
+fn a_steady_pair_has_no_fault_within_its_room(rt: HostRuntime) -> Result<(), NoMemory> {
+    assert!(rt; is_end_read(rt.alloc())?);
+    assert!(rt; does_room_of_six_take_one_and_a_half(rt.alloc())?);
     Ok(())
 }
 
@@ -167,5 +216,5 @@ fn write_fitting(sink: &mut SteadySink, text: &[u8]) -> Result<(), Failed>
 
 #[test]
 fn a_run_ends_with_the_number_of_its_status(rt: HostRuntime) {
-    assert_eq!(rt; Status::DoorFault.code(), 10);
+    assert!(rt; Status::DoorFault.code() == 10);
 }

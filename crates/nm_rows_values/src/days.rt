@@ -1,9 +1,19 @@
 //! Days of the calendar, and keys.
 use nm_day::{Day, Key};
-use std::test::Fail;
+
+fn is_day(text: &[u8], number: i64) -> bool {
+    match Day::parse(text) {
+        Ok(day) => {
+            day.number() == number
+                && day.text().as_slice() == text
+                && Day::of_number(number) == Some(day)
+        }
+        Err(_error) => false,
+    }
+}
 
 #[test]
-fn days_of_the_calendar_are_read(rt: HostRuntime) -> Result<(), Fail> {
+fn days_of_the_calendar_are_read(rt: HostRuntime) {
     let days = [
         (b"1900-01-01", -25_567),
         (b"1969-12-31", -1),
@@ -14,12 +24,8 @@ fn days_of_the_calendar_are_read(rt: HostRuntime) -> Result<(), Fail> {
         (b"2999-12-31", 376_199),
     ];
     for (text, number) in days {
-        let day = Day::parse(text).ok().ok_or("no day")?;
-        assert_eq!(rt; day.number(), number);
-        assert_eq!(rt; day.text().as_slice(), text.as_slice());
-        assert_eq!(rt; Day::of_number(number), Some(day));
+        assert!(rt; is_day(text, number));
     }
-    Ok(())
 }
 
 #[test]
@@ -58,14 +64,31 @@ fn what_is_no_day_is_refused(rt: HostRuntime) {
     }
 }
 
+fn key(day: &[u8], filing: u32, stage: u32) -> Option<Key> {
+    match Day::parse(day) {
+        Ok(day) => Some(Key { day, filing, stage }),
+        Err(_error) => None,
+    }
+}
+
+/// Whether there are both keys, and the first stands before the second.
+fn are_in_order(first: Option<Key>, second: Option<Key>) -> bool {
+    match (first, second) {
+        (Some(first), Some(second)) => first < second,
+        _ => false,
+    }
+}
+
+fn are_same(first: Option<Key>, second: Option<Key>) -> bool {
+    first.is_some() && first == second
+}
+
 #[test]
-fn keys_stand_by_day_and_filing_and_stage(rt: HostRuntime) -> Result<(), Fail> {
-    let earlier = Day::parse(b"1999-12-31").ok().ok_or("no day")?;
-    let later = Day::parse(b"2000-01-01").ok().ok_or("no day")?;
-    let key = |day, filing, stage| Key { day, filing, stage };
-    assert!(rt; key(earlier, 9, 9) < key(later, 1, 0));
-    assert!(rt; key(later, 1, 9) < key(later, 2, 0));
-    assert!(rt; key(later, 2, 0) < key(later, 2, 1));
-    assert_eq!(rt; key(later, 2, 1), key(later, 2, 1));
-    Ok(())
+fn keys_stand_by_day_and_filing_and_stage(rt: HostRuntime) {
+    let earlier = b"1999-12-31";
+    let later = b"2000-01-01";
+    assert!(rt; are_in_order(key(earlier, 9, 9), key(later, 1, 0)));
+    assert!(rt; are_in_order(key(later, 1, 9), key(later, 2, 0)));
+    assert!(rt; are_in_order(key(later, 2, 0), key(later, 2, 1)));
+    assert!(rt; are_same(key(later, 2, 1), key(later, 2, 1)));
 }

@@ -1,6 +1,6 @@
 //! Live projects, their steps, and dependencies that are not met.
 use nm_day::Day;
-use nm_ident::Ids;
+use nm_ident::{Ids, NoMemory};
 use nm_stage::{Live, Project};
 use nm_statement::{Change, Set};
 use std::alloc::Global;
@@ -17,7 +17,7 @@ fn no_change(alloc: Global) -> Result<Arc<Change>, Fail> {
     Ok(Arc::new(alloc, change)?)
 }
 
-fn ids(alloc: Global, ids: &[u128]) -> Result<Ids, Fail> {
+fn ids(alloc: Global, ids: &[u128]) -> Result<Ids, NoMemory> {
     Ok(Ids::of_list(ids.to_vec(alloc)?))
 }
 
@@ -46,7 +46,19 @@ fn with(
     Ok(live.with(alloc, project)?)
 }
 
-fn filings(alloc: Global, live: &Live) -> Result<Vec<u32>, Fail> {
+/// A filing number, a day, an id and dependencies.
+type Filed<'a> = (u32, &'a [u8], u128, &'a [u128]);
+
+/// The list of these projects, filed one after another.
+fn live_of(alloc: Global, projects: &[Filed<'_>]) -> Result<Live, Fail> {
+    let mut live = Live::empty(alloc);
+    for (filing, day, id, dependencies) in projects {
+        live = with(alloc, &live, *filing, day, *id, dependencies)?;
+    }
+    Ok(live)
+}
+
+fn filings(alloc: Global, live: &Live) -> Result<Vec<u32>, NoMemory> {
     let mut filings = Vec::new(alloc);
     for project in live.as_slice() {
         filings.push(project.filing)?;
@@ -54,8 +66,12 @@ fn filings(alloc: Global, live: &Live) -> Result<Vec<u32>, Fail> {
     Ok(filings)
 }
 
+fn has_filings(alloc: Global, live: &Live, due: &[u32]) -> Result<bool, NoMemory> {
+    Ok(filings(alloc, live)?.as_slice() == due)
+}
+
 /// The models of the steps, in their order.
-fn models_of(alloc: Global, live: &Live) -> Result<Vec<u128>, Fail> {
+fn models_of(alloc: Global, live: &Live) -> Result<Vec<u128>, NoMemory> {
     let mut models = Vec::new(alloc);
     for step in live.steps(alloc)? {
         models.push(step.model)?;
@@ -63,53 +79,102 @@ fn models_of(alloc: Global, live: &Live) -> Result<Vec<u128>, Fail> {
     Ok(models)
 }
 
-/// Projects of filing numbers 1 to 3, the second of which comes into service first.
+fn has_models(alloc: Global, live: &Live, due: &[u128]) -> Result<bool, NoMemory> {
+    Ok(models_of(alloc, live)?.as_slice() == due)
+}
+
+/// The projects of filing numbers 1 to 3, the second of which comes into service first.
 fn three_projects(alloc: Global) -> Result<Live, Fail> {
-    let live = Live::empty(alloc);
-    let live = with(alloc, &live, 3, b"2027-06-01", 30, &[])?;
-    let live = with(alloc, &live, 1, b"2027-06-01", 10, &[])?;
-    with(alloc, &live, 2, b"2027-04-01", 20, &[])
+    live_of(
+        alloc,
+        &[
+            (3, b"2027-06-01", 30, &[]),
+            (1, b"2027-06-01", 10, &[]),
+            (2, b"2027-04-01", 20, &[]),
+        ],
+    )
+}
+
+fn do_three_projects_stand_in_order(alloc: Global) -> Result<bool, Fail> {
+    let live = three_projects(alloc)?;
+    Ok(has_filings(alloc, &live, &[1, 2, 3])? && has_models(alloc, &live, &[20, 10, 30])?)
 }
 
 #[test]
 fn projects_stand_by_filing_number_and_steps_by_day(rt: HostRuntime) -> Result<(), Fail> {
-    let alloc = rt.alloc();
-    let live = three_projects(alloc)?;
-    assert_eq!(rt; filings(alloc, &live)?.as_slice(), [1, 2, 3].as_slice());
-    assert_eq!(rt;
-        models_of(alloc, &live)?.as_slice(),
-        [20, 10, 30].as_slice()
-    );
+    assert!(rt; do_three_projects_stand_in_order(rt.alloc())?);
     Ok(())
+}
+
+/// The three projects, the second of which comes into service last.
+fn redated(alloc: Global) -> Result<Live, Fail> {
+    let live = three_projects(alloc)?;
+    with(alloc, &live, 2, b"2027-07-01", 20, &[])
+}
+
+fn is_dated(live: &Live, id: u128, day: &[u8]) -> bool {
+    match live.find(id) {
+        Some(project) => project.day.text().as_slice() == day,
+        None => false,
+    }
+}
+
+/// Whether the list without the first project has the second and the third.
+fn is_first_taken_out(alloc: Global, live: &Live) -> Result<bool, NoMemory> {
+    let others = live.without(alloc, 1)?;
+    has_filings(alloc, &others, &[2, 3])
+}
+
+fn is_second_redated_and_first_taken_out(alloc: Global) -> Result<bool, Fail> {
+    let live = redated(alloc)?;
+    Ok(live.len() == 3 && is_dated(&live, 20, b"2027-07-01") && is_first_taken_out(alloc, &live)?)
 }
 
 #[test]
 fn a_project_is_redated_and_taken_out(rt: HostRuntime) -> Result<(), Fail> {
-    let alloc = rt.alloc();
-    let live = three_projects(alloc)?;
-    let redated = with(alloc, &live, 2, b"2027-07-01", 20, &[])?;
-    assert_eq!(rt; redated.len(), 3);
-    assert_eq!(rt;
-        redated.find(20).ok_or("none")?.day.text().as_slice(),
-        b"2027-07-01".as_slice()
-    );
-    assert_eq!(rt;
-        filings(alloc, &redated.without(alloc, 1)?)?.as_slice(),
-        [2, 3].as_slice()
-    );
+    assert!(rt; is_second_redated_and_first_taken_out(rt.alloc())?);
     Ok(())
+}
+
+/// The filing number and the id of the first dependency that neither the model 5 nor an earlier step meets.
+fn missing(alloc: Global, live: &Live) -> Result<Option<(u32, u128)>, NoMemory> {
+    let known = ids(alloc, &[5])?;
+    match live.missing(alloc, &known)? {
+        Some((key, id)) => Ok(Some((key.filing, id))),
+        None => Ok(None),
+    }
+}
+
+/// Two projects, the second of which depends on the first, and both on the model 5.
+fn two_projects(alloc: Global) -> Result<Live, Fail> {
+    live_of(
+        alloc,
+        &[
+            (1, b"2027-04-01", 10, &[5]),
+            (3, b"2027-06-01", 30, &[5, 10]),
+        ],
+    )
+}
+
+/// The two projects, and one that depends on a later step.
+fn two_projects_and_one_ahead(alloc: Global) -> Result<Live, Fail> {
+    let live = two_projects(alloc)?;
+    with(alloc, &live, 2, b"2027-06-01", 20, &[50, 30, 40])
+}
+
+fn misses_nothing(alloc: Global) -> Result<bool, Fail> {
+    let live = two_projects(alloc)?;
+    Ok(missing(alloc, &live)?.is_none())
+}
+
+fn misses_a_later_step(alloc: Global) -> Result<bool, Fail> {
+    let live = two_projects_and_one_ahead(alloc)?;
+    Ok(missing(alloc, &live)? == Some((2, 30)))
 }
 
 #[test]
 fn a_dependency_is_met_by_what_is_known_and_by_earlier_steps(rt: HostRuntime) -> Result<(), Fail> {
-    let alloc = rt.alloc();
-    let known = ids(alloc, &[5])?;
-    let live = Live::empty(alloc);
-    let live = with(alloc, &live, 1, b"2027-04-01", 10, &[5])?;
-    let live = with(alloc, &live, 3, b"2027-06-01", 30, &[5, 10])?;
-    assert_eq!(rt; live.missing(alloc, &known)?, None);
-    let live = with(alloc, &live, 2, b"2027-06-01", 20, &[50, 30, 40])?;
-    let (key, id) = live.missing(alloc, &known)?.ok_or("none")?;
-    assert_eq!(rt; (key.filing, id), (2, 30));
+    assert!(rt; misses_nothing(rt.alloc())?);
+    assert!(rt; misses_a_later_step(rt.alloc())?);
     Ok(())
 }

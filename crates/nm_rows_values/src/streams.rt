@@ -6,7 +6,6 @@ use nm_gen::{MOST_PROJECTS, generate};
 use nm_ident::NoMemory;
 use sha1::Sha1;
 use std::alloc::Global;
-use std::test::Fail;
 
 /// The length of a stream, and its SHA-1.
 fn digest_of(alloc: Global, projects: u32, seed: u32) -> Result<String, NoMemory>
@@ -18,33 +17,26 @@ fn digest_of(alloc: Global, projects: u32, seed: u32) -> Result<String, NoMemory
     format!(in alloc; "{} {}", stream.len(), digest)
 }
 
+fn is_stream(alloc: Global, projects: u32, seed: u32, digest: &str) -> Result<bool, NoMemory>
+    requires some { 1 ≤ projects }
+    requires few { projects ≤ most_projects }
+{
+    Ok(digest_of(alloc, projects, seed)?.as_str() == digest)
+}
+
 /// The streams are those that another program wrote by the same rules.
 #[test]
-fn streams_are_those_of_another_program(rt: HostRuntime) -> Result<(), Fail> {
-    let least = digest_of(rt.alloc(), 1, 0)?;
-    assert_eq!(rt;
-        least.as_str(),
-        "286503 4baec1c54e9be556f463d7a4f2b8c3dfe355b457"
-    );
-    let small = digest_of(rt.alloc(), 20, 7)?;
-    assert_eq!(rt;
-        small.as_str(),
-        "310608 993e47a5bbea179956f76ce7e5d945061f4814a6"
-    );
-    let larger = digest_of(rt.alloc(), 200, 7)?;
-    assert_eq!(rt;
-        larger.as_str(),
-        "539605 e81fe3dac1a214858e36afc53c91407ca541d394"
-    );
-    let last_seed = digest_of(rt.alloc(), 16, 4_294_967_295)?;
-    assert_eq!(rt;
-        last_seed.as_str(),
-        "305535 fe57eec64ca5b5d6caa24211bb3eeb23a97604e1"
-    );
-    let most = digest_of(rt.alloc(), MOST_PROJECTS, 7)?;
-    assert_eq!(rt;
-        most.as_str(),
-        "2834966 8028694170dd66fbe78011b08073eef144393a3f"
-    );
+fn streams_are_those_of_another_program(rt: HostRuntime) -> Result<(), NoMemory> {
+    let alloc = rt.alloc();
+    let least = "286503 4baec1c54e9be556f463d7a4f2b8c3dfe355b457";
+    assert!(rt; is_stream(alloc, 1, 0, least)?);
+    let small = "310608 993e47a5bbea179956f76ce7e5d945061f4814a6";
+    assert!(rt; is_stream(alloc, 20, 7, small)?);
+    let larger = "539605 e81fe3dac1a214858e36afc53c91407ca541d394";
+    assert!(rt; is_stream(alloc, 200, 7, larger)?);
+    let last_seed = "305535 fe57eec64ca5b5d6caa24211bb3eeb23a97604e1";
+    assert!(rt; is_stream(alloc, 16, 4_294_967_295, last_seed)?);
+    let most = "2834966 8028694170dd66fbe78011b08073eef144393a3f";
+    assert!(rt; is_stream(alloc, MOST_PROJECTS, 7, most)?);
     Ok(())
 }
