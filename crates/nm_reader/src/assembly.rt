@@ -2,7 +2,9 @@
 ghost use Rattle.nm_ident.specs.Order.{text_cmp};
 ghost use Rattle.nm_ident.specs.Rising.{rising_by};
 ghost use Rattle.nm_model.specs.Header.{rising_ids as rising_ids_of};
+ghost use Rattle.nm_model.specs.declared.document.Document.TheVariants as document;
 ghost use Rattle.nm_reader.specs.Model as spec;
+ghost use Rattle.nm_statement.specs.Set.{set_of};
 ghost use Rattle.std.specs.Option.{option_map};
 ghost use Rattle.std.specs.Prelude.{◌≡◌, IfOk};
 
@@ -10,7 +12,7 @@ use crate::draft::{Draft, draft_of};
 use crate::fact::{Fact, Kind};
 use nm_ident::{Ids, NoMemory, Text, Texts};
 use nm_model::{Difference, Document, Full, Header};
-use nm_statement::{Change, Set};
+use nm_statement::{Change, Set, Statement};
 use std::alloc::Global;
 
 /// The identifiers in order, each once.
@@ -49,19 +51,58 @@ fn model_of(alloc: Global, kind: Kind, id: u128, facts: Vec<Fact>) -> Result<Doc
         depends: rising_ids(draft.depends),
         supersedes: rising_ids(draft.supersedes),
     };
-    Ok(match kind {
-        Kind::Full => Document::Full(Full {
+    match kind {
+        Kind::Full => full(alloc, header, draft.whole),
+        Kind::Difference => difference(
+            alloc,
             header,
-            statements: Set::of_list(alloc, draft.whole)?,
-        }),
-        Kind::Difference => Document::Difference(Difference {
-            header,
-            change: Change {
-                pre: Set::of_list(alloc, draft.preconditions)?,
-                rev: Set::of_list(alloc, draft.reverse)?,
-                fwd: Set::of_list(alloc, draft.forward)?,
-            },
-        }),
+            draft.preconditions,
+            draft.reverse,
+            draft.forward,
+        ),
+    }
+}
+
+/// The full model of these statements.
+fn full(alloc: Global, header: Header, statements: Vec<Statement>) -> Result<Document, NoMemory>
+    ensures { IfOk result (λ model. model ≡ document.Full (record { header = header; statements = set_of statements.items })) }
+{
+    Ok(Document::Full(Full {
+        header,
+        statements: Set::of_list(alloc, statements)?,
+    }))
+}
+
+/// The difference model of these statements.
+fn difference(
+    alloc: Global,
+    header: Header,
+    preconditions: Vec<Statement>,
+    reverse: Vec<Statement>,
+    forward: Vec<Statement>,
+) -> Result<Document, NoMemory>
+    ensures { IfOk result (λ model. model ≡ document.Difference (record {
+      header = header;
+      change = record { pre = set_of preconditions.items; rev = set_of reverse.items; fwd = set_of forward.items };
+    })) }
+{
+    let change = change_of(alloc, preconditions, reverse, forward)?;
+    Ok(Document::Difference(Difference { header, change }))
+}
+
+/// The change that takes one list of statements away and adds another.
+fn change_of(
+    alloc: Global,
+    preconditions: Vec<Statement>,
+    reverse: Vec<Statement>,
+    forward: Vec<Statement>,
+) -> Result<Change, NoMemory>
+    ensures { IfOk result (λ change. change ≡ record { pre = set_of preconditions.items; rev = set_of reverse.items; fwd = set_of forward.items }) }
+{
+    Ok(Change {
+        pre: Set::of_list(alloc, preconditions)?,
+        rev: Set::of_list(alloc, reverse)?,
+        fwd: Set::of_list(alloc, forward)?,
     })
 }
 
