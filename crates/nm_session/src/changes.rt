@@ -1,5 +1,6 @@
 // The commands that change what a session stands in.
 ghost use Rattle.nm_session.specs.Body.{IsReadBody};
+ghost use Rattle.nm_model.specs.declared.document.Document.TheVariants as document_of;
 ghost use Rattle.nm_reader.specs.Input.{IsDocumentOf};
 ghost use Rattle.nm_session.specs.Turn as spec;
 ghost use Rattle.nm_session.specs.declared.body.Body.TheVariants as body_of;
@@ -18,7 +19,7 @@ use crate::turn::State;
 use nm_base::{NoMemory, Steps};
 use nm_day::Day;
 use nm_ident::Text;
-use nm_model::Document;
+use nm_model::{Document, Full};
 use nm_version::{Command, Refusal, Version};
 use std::alloc::Global;
 use std::marker::Brand;
@@ -51,13 +52,23 @@ fn take_document(
     ensures err { OnErr result (state.new ≡ state.old) }
 {
     match document {
-        Document::Full(base) => {
-            let reply = numbered(alloc, b"ok", 0)?;
-            *state = State::Store(Version::open(alloc, base, bytes.into_list())?);
-            Ok(Reply::of_list(reply))
-        }
+        Document::Full(base) => open_store(alloc, state, base, bytes),
         Document::Difference(_) => refused(alloc, &Refusal::Kind),
     }
+}
+
+/// Opens the store of a base.
+// Apart, so that a document that may be there is dropped at one place.
+fn open_store(alloc: Global, state: &mut State, base: Full, bytes: Text) -> Result<Reply, NoMemory>
+    requires { IsDocumentOf bytes (document_of.Full base) }
+    ensures ok { IfOk result (λ reply. (reply ≡ (spec.with_base (body_of.Document (document_of.Full base) bytes)).reply)
+        × (state.new ≡ (spec.with_base (body_of.Document (document_of.Full base) bytes)).state)) }
+    ensures err { OnErr result (state.new ≡ state.old) }
+{
+    let version = Version::open(alloc, base, bytes.into_list())?;
+    let reply = numbered(alloc, b"ok", 0)?;
+    *state = State::Store(version);
+    Ok(Reply::of_list(reply))
 }
 
 /// Files a project that is in service from the day on.

@@ -119,10 +119,14 @@ impl Version {
         requires { IsSpelt command }
         ensures { IsDue refused.wants_memory result (after.commit_of self.now command) }
     {
-        if let Some(refusal) = self.early_refusal(&command) {
-            return Err(refusal);
+        match self.early_refusal(&command) {
+            None => self.commit_unless_broken(alloc, command),
+            Some(refusal) => {
+                // At once, so that no other path has to drop what the command holds.
+                drop(command);
+                Err(refusal)
+            }
         }
-        self.commit_unless_broken(alloc, command)
     }
 
     /// The version after a command that no rule before the replay refuses.
