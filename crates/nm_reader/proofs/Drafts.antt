@@ -1,8 +1,8 @@
 -- One fact more changes the draft at one place.
-use Rattle.std.proofs.Common.{◌≡◌, ℕ, List, [], ◌∷◌, ◌++◌, Option, None, Some, refl}
+use Rattle.std.proofs.Common.{◌≡◌, List, [], ◌∷◌, ◌++◌, Some, refl}
 use Rattle.std.proofs.lemmas.List.{append-nil}
 use Rattle.std.proofs.lemmas.List.Elements.{filter_map-append}
-use Rattle.nm_reader.specs.Draft.{Drafted, drafted, with_fact}
+use Rattle.nm_reader.specs.Draft.{drafted, with_fact}
 use Rattle.nm_reader.specs.Model.{last_of}
 use Rattle.nm_reader.specs.declared.fact.Fact.{Fact}
 use Rattle.nm_reader.specs.declared.fact.Fact.TheVariants.{Heads, Tells, Links, States}

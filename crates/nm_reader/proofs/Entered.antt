@@ -1,5 +1,5 @@
 -- What a tag that is taken leaves.
-use Rattle.std.proofs.Common.{◌≡◌, ℕ, List, [], ◌∷◌, ◌++◌, length, Bool, true, false, ◌&&◌, ◌||◌, not, nat_le, Option, None, Some, is_none, is_some, if◌then◌else◌, refl, sym, ap, ◌∙◌, arith}
+use Rattle.std.proofs.Common.{◌≡◌, ℕ, List, [], ◌∷◌, ◌++◌, Bool, true, false, ◌&&◌, ◌||◌, not, Option, None, Some, is_none, if◌then◌else◌, refl, sym, ap, ◌∙◌}
 use Rattle.std.proofs.lemmas.Str.{IsUtf8-nil, is_utf8-from_IsUtf8, chars-nil}
 use Rattle.std.specs.List.{list_all}
 use Rattle.std.specs.Option.{option_map}
@@ -13,14 +13,14 @@ use Rattle.nm_piece.specs.declared.piece.Piece.TheVariants.{Open}
 use Rattle.nm_piece.specs.declared.piece.QName.{QName}
 use Rattle.nm_statement.specs.Literal.{is_literal}
 use Rattle.nm_text.specs.Characters.{is_character, is_text}
-use Rattle.nm_reader.specs.Context.{Context, entered, scope_in, tag_at}
+use Rattle.nm_reader.specs.Context.{Context, entered, tag_at}
 use Rattle.nm_reader.specs.Cutting.{Spelt}
 use Rattle.nm_reader.specs.Limits.{is_within_limits, plus}
-use Rattle.nm_reader.specs.Meaning.{are_allowed, has_short_iris, header_link_meaning, header_meaning, header_text_meaning, identity_of, inside_of, link_meaning, linked_by, listed, meaning_of, model_of, object_meaning, only_inside, property_meaning, resource_name, told_by, value_of}
+use Rattle.nm_reader.specs.Meaning.{are_allowed, has_short_iris, header_link_meaning, header_meaning, header_text_meaning, identity_of, inside_of, link_meaning, linked_by, meaning_of, model_of, object_meaning, only_inside, property_meaning, resource_name, told_by, value_of}
 use Rattle.nm_reader.specs.Namespaces.{Given, are_spelt_once, declared_by, has_declared_prefixes, has_namespace, same_name}
 use Rattle.nm_reader.specs.Place.{description_name, place_behind}
 use Rattle.nm_reader.specs.Rules.{code_at, is_header, is_header_property, is_nested, is_of_object, is_stray, lacks_header, role_judged}
-use Rattle.nm_reader.specs.Shape.{limit_code, or_code, shape_code, value_code}
+use Rattle.nm_reader.specs.Shape.{limit_code, or_code, shape_code}
 use Rattle.nm_reader.specs.Tag.{Tag, behind_tag, counted_by_tag, element_of, given_of, inside_of_tag, meaning_of_tag, role_of_tag, scope_of, told_by_tag}
 use Rattle.nm_reader.specs.Taken.{IsJudged, entered_by, is_sound_place, tag_code}
 use Rattle.nm_reader.specs.declared.counts.Counts.{Counts}
@@ -30,13 +30,11 @@ use Rattle.nm_reader.specs.declared.fact.Kind.TheVariants.{Full, Difference}
 use Rattle.nm_reader.specs.declared.fact.LinkProperty.{LinkProperty}
 use Rattle.nm_reader.specs.declared.fact.Part.{Part}
 use Rattle.nm_reader.specs.declared.fact.TextProperty.{TextProperty}
-use Rattle.nm_reader.specs.declared.fault.Code.{Code}
 use Rattle.nm_reader.specs.declared.fault.Code.TheVariants as code
 use Rattle.nm_reader.specs.declared.judging.Judged.{Judged}
 use Rattle.nm_reader.specs.declared.meaning.Meaning.{Meaning}
-use Rattle.nm_reader.specs.Opened.{Opened}
 use Rattle.nm_reader.specs.declared.place.Place.{Place}
-use Rattle.nm_reader.specs.declared.place.Place.TheVariants.{BeforeRoot, InRoot, InHeader, InBody, InRest, InSection, InObject, InLiteral, InLink, InSkipped, AfterRoot}
+use Rattle.nm_reader.specs.declared.place.Place.TheVariants.{InObject}
 use Rattle.nm_reader.specs.declared.place.Role.{Role}
 use Rattle.nm_reader.specs.declared.place.Role.TheVariants.{RootElement, EmptyRoot, ModelHeader, HeaderText, HeaderLink, OtherProperty, SectionElement, ObjectElement, PropertyElement, NoHeader, Stray, Nested}
 use Rattle.nm_reader.proofs.Judged.{no_meaning, rows_joined}

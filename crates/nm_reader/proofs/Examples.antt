@@ -1,11 +1,11 @@
 -- Worked examples of the definitions, computed, on the pieces of documents. The offset of each piece
 -- is its number in the row.
-use Rattle.std.proofs.Common.{◌≡◌, ℕ, ◌+◌, List, [], ◌∷◌, ◌++◌, codes, replicate, Bool, true, false, Option, None, Some, length, refl}
+use Rattle.std.proofs.Common.{◌≡◌, ℕ, ◌+◌, List, [], ◌∷◌, ◌++◌, codes, replicate, true, false, Option, None, Some, length, refl}
 use Rattle.uuid.proofs.OnLiterals.{uuid_on_literals}
 use Rattle.nm_ident.specs.Name.{dm_namespace, md_namespace, rdf_namespace, type_name}
 use Rattle.nm_ident.specs.QualifiedName.{QualifiedName}
 use Rattle.nm_ident.specs.UuidText.{uuid_of}
-use Rattle.nm_ident.specs.declared.ident.Ident.TheVariants.{Uuid, Local}
+use Rattle.nm_ident.specs.declared.ident.Ident.TheVariants.{Local}
 use Rattle.nm_model.specs.declared.document.Document.{Document}
 use Rattle.nm_model.specs.declared.document.Document.TheVariants as document
 use Rattle.nm_model.specs.declared.header.Header.{Header}

@@ -1,5 +1,5 @@
 -- A document that fits has a header, which comes before all else that it tells.
-use Rattle.std.proofs.Common.{◌≡◌, ℕ, List, [], ◌∷◌, ◌++◌, codes, Bool, true, false, ◌&&◌, Option, None, Some, is_some, if◌then◌else◌, refl, sym, ap, ◌∙◌, arith}
+use Rattle.std.proofs.Common.{◌≡◌, ℕ, List, [], ◌∷◌, ◌++◌, codes, Bool, true, false, ◌&&◌, Option, None, Some, is_some, if◌then◌else◌, refl, ap, arith}
 use Rattle.std.specs.Option.{option_map}
 use Rattle.nm_ident.specs.QualifiedName.{QualifiedName}
 use Rattle.nm_reader.specs.Blocks.{Blocks, End, Skip, Text, Empty, Element, fits, place_after, tag_in, told}
@@ -8,7 +8,7 @@ use Rattle.nm_reader.specs.Namespaces.{Given, are_spelt_once, has_declared_prefi
 use Rattle.nm_reader.specs.Opened.{Declaration}
 use Rattle.nm_piece.specs.declared.piece.Attribute.{Attribute}
 use Rattle.nm_piece.specs.declared.piece.QName.{QName}
-use Rattle.nm_reader.specs.Place.{dm, headers, md, role_in, root_name}
+use Rattle.nm_reader.specs.Place.{dm, md, root_name}
 use Rattle.nm_reader.specs.Tag.{Tag, element_of, given_of, inside_of_tag, is_taken, meaning_of_tag, role_of_tag, scope_of, told_by_tag}
 use Rattle.nm_reader.specs.Texts.{is_after_root, may_end}
 use Rattle.nm_reader.proofs.Spellings.{and_left, and_right}
@@ -18,7 +18,6 @@ use Rattle.nm_reader.specs.declared.fact.Kind.{Kind}
 use Rattle.nm_reader.specs.declared.fact.Kind.TheVariants.{Full, Difference}
 use Rattle.nm_reader.specs.declared.place.Place.{Place}
 use Rattle.nm_reader.specs.declared.place.Place.TheVariants.{BeforeRoot, InRoot}
-use Rattle.nm_reader.specs.declared.place.Role.{Role}
 use Rattle.nm_reader.specs.declared.place.Role.TheVariants.{RootElement, ModelHeader, NoHeader, Stray}
 
 -- the header comes first

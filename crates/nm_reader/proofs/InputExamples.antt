@@ -1,5 +1,5 @@
 -- Worked examples of inputs, computed byte by byte.
-use Rattle.std.proofs.Common.{◌≡◌, ℕ, List, [], ◌∷◌, ◌++◌, codes, Option, None, Some, Ok, refl}
+use Rattle.std.proofs.Common.{◌≡◌, ℕ, List, [], ◌∷◌, ◌++◌, codes, Option, None, Some, refl}
 use lib.Utf8.{encode}
 use Rattle.nm_ident.specs.Name.{md_namespace, rdf_namespace, type_name}
 use Rattle.nm_ident.specs.declared.ident.Ident.TheVariants.{Local}

@@ -1,20 +1,17 @@
 -- The two views of a document agree: blocks fit exactly where no rule applies to their pieces.
-use Rattle.std.proofs.Common.{◌≡◌, ℕ, List, [], ◌∷◌, ◌++◌, Bool, true, false, ◌&&◌, not, refl, sym, ap, ◌∙◌, add_assoc, add-zero, zero-add, append_assoc}
+use Rattle.std.proofs.Common.{◌≡◌, ℕ, List, ◌∷◌, ◌++◌, Bool, true, false, ◌&&◌, refl, sym, ap, ◌∙◌, add_assoc, add-zero, zero-add, append_assoc}
 use Rattle.std.proofs.lemmas.List.{append-nil}
-use Rattle.nm_reader.specs.Blocks.{Blocks, End, Skip, Text, Empty, Element, counted, fits, pieces_of, place_after, tag_in, told}
-use Rattle.nm_reader.specs.Context.{Context, after, after_all, entered, left, scope_in, tag_at}
+use Rattle.nm_reader.specs.Blocks.{Blocks, End, Skip, Text, Empty, Element, counted, fits, pieces_of, place_after, told}
+use Rattle.nm_reader.specs.Context.{Context, after, after_all, left, scope_in, tag_at}
 use Rattle.nm_reader.specs.Opened.{Opened}
 use Rattle.nm_reader.specs.Limits.{nothing, plus}
 use Rattle.nm_reader.specs.declared.counts.Counts.{Counts}
-use Rattle.nm_reader.specs.Meaning.{told_at_end}
 use Rattle.nm_reader.specs.Namespaces.{scope_inside}
-use Rattle.nm_reader.specs.Opened.{Declaration}
 use Rattle.nm_piece.specs.declared.piece.Attribute.{Attribute}
 use Rattle.nm_piece.specs.declared.piece.Piece.{Piece}
 use Rattle.nm_piece.specs.declared.piece.QName.{QName}
 use Rattle.nm_piece.specs.declared.piece.Piece.TheVariants as piece
-use Rattle.nm_reader.specs.Rules.{closes}
-use Rattle.nm_reader.specs.Tag.{Tag, behind_tag, counted_by_tag, inside_of_tag, is_taken, told_by_tag}
+use Rattle.nm_reader.specs.Tag.{Tag, behind_tag, inside_of_tag, is_taken}
 use Rattle.nm_reader.specs.Texts.{may_end, takes_text, with_text}
 use Rattle.nm_reader.proofs.Pieces.{fine_within, step_close, step_skip, step_tag, step_text}
 use Rattle.nm_reader.proofs.Spellings.{same_spelling-refl}

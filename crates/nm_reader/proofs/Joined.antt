@@ -1,6 +1,5 @@
 -- Texts that are joined stay texts, and what the end of an element leaves.
-use Rattle.std.proofs.Common.{◌≡◌, ◌≤◌, ◌+◌, ℕ, List, [], ◌∷◌, ◌++◌, length, length-append, Bool, true, false, ◌&&◌, not, nat_le, refl, sym, ap, ◌∙◌, arith}
-use Rattle.std.proofs.lemmas.Bool.Decides.{nat_tests}
+use Rattle.std.proofs.Common.{◌≡◌, ℕ, List, ◌++◌, length, Bool, true, false, ◌&&◌, not, nat_le, refl, ap, ◌∙◌, arith}
 use Rattle.std.proofs.lemmas.List.Folds.{list_all-append}
 use Rattle.std.proofs.lemmas.Str.{IsUtf8-append, IsUtf8-from_is_utf8, chars-append, is_utf8-from_IsUtf8}
 use Rattle.std.specs.List.{list_all}
@@ -8,7 +7,7 @@ use Rattle.std.specs.Str.{chars, is_utf8}
 use Rattle.nm_statement.specs.Literal.{is_literal}
 use Rattle.nm_statement.specs.Limits.{longest_literal}
 use Rattle.nm_text.specs.Characters.{is_character, is_text}
-use Rattle.nm_reader.specs.Rules.{is_misplaced_text, passes_literal}
+use Rattle.nm_reader.specs.Rules.{passes_literal}
 use Rattle.nm_reader.specs.Taken.{is_sound_place}
 use Rattle.nm_reader.specs.Texts.{with_text}
 use Rattle.nm_reader.specs.declared.place.Place.{Place}

@@ -1,18 +1,13 @@
 -- What the rules on tags come to: the code of a tag, and the meaning of a tag that has none.
-use Rattle.std.proofs.Common.{◌≡◌, ℕ, List, [], ◌∷◌, codes, Bool, true, false, ◌&&◌, ◌||◌, not, Option, None, Some, is_none, is_some, if◌then◌else◌, refl, sym, ap, ◌∙◌, arith}
+use Rattle.std.proofs.Common.{◌≡◌, List, [], ◌∷◌, codes, Bool, true, false, ◌&&◌, ◌||◌, not, Option, None, Some, is_none, is_some, if◌then◌else◌, refl, arith}
 use Rattle.std.specs.List.{list_all}
-use Rattle.nm_ident.specs.Name.{dm_namespace, is_name, is_namespace, is_predicate, md_namespace, rdf_namespace}
+use Rattle.nm_ident.specs.Name.{dm_namespace, is_name, is_namespace, md_namespace, rdf_namespace}
 use Rattle.nm_ident.specs.QualifiedName.{QualifiedName}
-use Rattle.nm_piece.specs.declared.piece.Attribute.{Attribute}
-use Rattle.nm_piece.specs.declared.piece.QName.{QName}
-use Rattle.nm_piece.specs.declared.piece.Piece.TheVariants.{Open}
 use Rattle.nm_terms.specs.Bytes.{same_text}
-use Rattle.nm_reader.specs.Context.{Context, tag_at}
-use Rattle.nm_reader.specs.Cutting.{Spelt}
 use Rattle.nm_reader.specs.Meaning.{IsStatable, meaning_of}
 use Rattle.nm_reader.specs.Namespaces.{Given, same_name}
 use Rattle.nm_reader.specs.Place.{headers, is_dm, is_foreign, is_rdf, properties, role_in, role_of, root_name, sections}
-use Rattle.nm_reader.specs.Rules.{code_at, role_at}
+use Rattle.nm_reader.specs.Rules.{role_at}
 use Rattle.nm_reader.specs.Shape.{or_code, shape_code, value_code}
 use Rattle.nm_reader.specs.declared.fact.Kind.{Kind}
 use Rattle.nm_reader.specs.declared.fact.Kind.TheVariants.{Full, Difference}

@@ -1,5 +1,5 @@
 -- What an answer tells of the option that it was made of.
-use Rattle.std.proofs.Common.{◌≡◌, Option, None, Some, Result, Ok, Err, refl}
+use Rattle.std.proofs.Common.{◌≡◌, Option, None, Some, Ok}
 use Rattle.std.specs.Option.{ok_or}
 
 pub some_from_ok : {X E : Type 0} (value : Option X) (error : E) (x : X) → ok_or value error ≡ Ok x → Some x ≡ value

@@ -1,9 +1,7 @@
 -- Where no rule applies to one piece, and what stays of the limits.
-use Rattle.std.proofs.Common.{◌≡◌, ◌≤◌, ℕ, ◌+◌, List, [], ◌∷◌, ◌++◌, Bool, true, false, ◌&&◌, ◌||◌, not, nat_le, Option, None, Some, is_none, if◌then◌else◌, refl, sym, ap, ◌∙◌, arith}
+use Rattle.std.proofs.Common.{◌≡◌, ℕ, ◌+◌, List, [], ◌∷◌, Bool, true, false, ◌&&◌, ◌||◌, not, nat_le, Option, None, Some, is_none, if◌then◌else◌, refl, ◌∙◌, arith}
 use Rattle.std.proofs.lemmas.Bool.Decides.{nat_tests}
-use Rattle.nm_reader.specs.Blocks.{pieces_of}
-use Rattle.nm_reader.specs.Context.{Context, after, entered, is_whole, left, tag_at}
-use Rattle.nm_reader.specs.Opened.{Opened}
+use Rattle.nm_reader.specs.Context.{Context, after, left, tag_at}
 use Rattle.nm_reader.specs.Document.{is_read_encoding}
 use Rattle.nm_model.specs.Limits.{most_changes, most_dependencies, most_profiles, most_statements, most_superseded}
 use Rattle.nm_reader.specs.Limits.{is_within_limits, plus}
@@ -14,7 +12,7 @@ use Rattle.nm_piece.specs.declared.piece.QName.{QName}
 use Rattle.nm_piece.specs.declared.piece.Piece.TheVariants.{Start, Doctype, Open, Close, Text, Skip}
 use Rattle.nm_reader.specs.Cutting.{Spelt}
 use Rattle.nm_reader.specs.Rules.{closes, code_at, is_misplaced_text, passes_literal}
-use Rattle.nm_reader.specs.Tag.{Tag, counted_by_tag, inside_of_tag, is_taken}
+use Rattle.nm_reader.specs.Tag.{counted_by_tag, inside_of_tag, is_taken}
 use Rattle.nm_reader.specs.Texts.{may_end, takes_text}
 use Rattle.nm_reader.specs.declared.fault.Code.{Code}
 use Rattle.nm_reader.specs.declared.fault.Code.TheVariants as code

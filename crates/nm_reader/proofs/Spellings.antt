@@ -9,9 +9,9 @@ use Rattle.nm_piece.specs.declared.piece.Attribute.{Attribute}
 use Rattle.nm_piece.specs.declared.piece.QName.{QName}
 use Rattle.std.specs.List.{list_any}
 use Rattle.std.specs.Option.{option_eq}
-use Rattle.std.specs.Prelude.{[], ◌∷◌, map, not}
+use Rattle.std.specs.Prelude.{[], ◌∷◌, map}
 use denote.Ref.{Bor}
-use Rattle.nm_reader.specs.Namespaces.{are_distinct_by, are_spelt_alike, are_spelt_once}
+use Rattle.nm_reader.specs.Namespaces.{are_distinct_by, are_spelt_once}
 use Rattle.nm_reader.specs.Seen.{named, spelt}
 
 pub and_left : (a b : Bool) → (a && b) ≡ true → a ≡ true

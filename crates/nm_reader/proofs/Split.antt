@@ -1,5 +1,5 @@
 -- Pieces to which no rule applies are the pieces of blocks.
-use Rattle.std.proofs.Common.{◌≡◌, ℕ, List, [], ◌∷◌, ◌++◌, Bool, true, false, ◌&&◌, not, Option, is_none, refl, sym, ap, subst, ◌∙◌, append_assoc, arith}
+use Rattle.std.proofs.Common.{◌≡◌, ℕ, List, [], ◌∷◌, ◌++◌, true, false, not, Option, is_none, refl, sym, ap, subst, ◌∙◌, append_assoc, arith}
 use Rattle.nm_reader.specs.Blocks.{Blocks, End, Skip, Text, Empty, Element, pieces_of}
 use Rattle.nm_reader.specs.Context.{Context, after, after_all, left, left_behind}
 use Rattle.nm_reader.specs.Opened.{Opened}

@@ -1,11 +1,10 @@
 -- No rule on tags applies to a tag exactly where the tag is taken, an empty one may end, and no limit
 -- is passed.
-use Rattle.std.proofs.Common.{◌≡◌, ℕ, List, [], ◌∷◌, ◌++◌, codes, Bool, true, false, ◌&&◌, ◌||◌, not, Option, None, Some, is_none, is_some, if◌then◌else◌, refl, sym, ap, ◌∙◌, arith}
+use Rattle.std.proofs.Common.{◌≡◌, ℕ, List, [], ◌∷◌, codes, Bool, true, false, ◌&&◌, ◌||◌, not, Option, None, Some, is_none, is_some, if◌then◌else◌, refl, sym, ap, ◌∙◌, arith}
 use Rattle.std.specs.List.{list_all}
 use Rattle.std.specs.Option.{option_map}
 use Rattle.nm_ident.specs.QualifiedName.{QualifiedName}
 use Rattle.nm_ident.specs.declared.ident.Ident.{Ident}
-use Rattle.nm_reader.specs.Blocks.{tag_in}
 use Rattle.nm_reader.specs.Context.{Context, tag_at}
 use Rattle.nm_reader.specs.Limits.{is_within_limits, plus}
 use Rattle.nm_reader.specs.Meaning.{are_allowed, header_link_meaning, header_meaning, header_text_meaning, link_meaning, object_meaning, only_inside, property_meaning, has_short_iris, inside_of, linked_by, meaning_of, identity_of, model_of, told_by, value_of, resource_name}
@@ -35,7 +34,6 @@ use Rattle.nm_reader.specs.declared.place.Role.{Role}
 use Rattle.nm_reader.specs.declared.place.Role.TheVariants.{RootElement, EmptyRoot, ModelHeader, HeaderText, HeaderLink, OtherProperty, SectionElement, ObjectElement, PropertyElement, NoHeader, Stray, Nested}
 use Rattle.nm_reader.specs.declared.fact.TextProperty.{TextProperty}
 use Rattle.nm_reader.specs.declared.counts.Counts.{Counts}
-use Rattle.nm_reader.specs.declared.meaning.Meaning.{Meaning}
 
 -- the rules on roles, attributes and meanings
 abbrev is_judged_fine : Role → Bool → Bool → Bool

@@ -1,5 +1,5 @@
 -- What facts come to, one after another.
-use Rattle.std.specs.Prelude.{ℕ, List, [], ◌∷◌, ◌++◌, Option, None, Some}
+use Rattle.std.specs.Prelude.{ℕ, List, [], ◌∷◌, ◌++◌, Option, Some}
 use Rattle.std.specs.List.{filter_map}
 use Rattle.nm_statement.specs.declared.statement.Statement.{Statement}
 use Rattle.nm_reader.specs.Model.{last_of, link_for, statement_for, text_for}

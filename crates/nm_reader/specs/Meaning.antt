@@ -1,6 +1,6 @@
 -- The attributes that an element may have, and what it means with them (RDF/XML, section 7.2;
 -- IEC 61970-552).
-use Rattle.std.specs.Prelude.{◌≡◌, ℕ, List, [], ◌∷◌, ◌++◌, length, map, Bool, true, false, ◌&&◌, ◌||◌, not, nat_le, codes, if◌then◌else◌, Option, None, Some, is_none, is_some}
+use Rattle.std.specs.Prelude.{◌≡◌, ℕ, List, [], ◌∷◌, ◌++◌, length, Bool, true, ◌&&◌, not, nat_le, codes, if◌then◌else◌, Option, None, Some}
 use Rattle.std.specs.List.{list_all, list_any}
 use Rattle.std.specs.Option.{option_map}
 use Rattle.nm_ident.specs.Ident.{ident_of_about, ident_of_id, target_of}
@@ -8,12 +8,11 @@ use Rattle.nm_ident.specs.Name.{is_predicate, rdf_namespace, type_name}
 use Rattle.nm_terms.specs.Bytes.{same_text}
 use Rattle.nm_ident.specs.QualifiedName.{QualifiedName}
 use Rattle.nm_ident.specs.declared.ident.Ident.{Ident}
-use Rattle.nm_ident.specs.declared.ident.Ident.TheVariants.{Uuid, Local}
+use Rattle.nm_ident.specs.declared.ident.Ident.TheVariants.{Uuid}
 use Rattle.nm_ident.specs.declared.ident.Target.{Target}
 use Rattle.nm_ident.specs.declared.ident.Target.TheVariants as target
 use Rattle.nm_statement.specs.declared.object.Object.{Object}
 use Rattle.nm_statement.specs.declared.object.Object.TheVariants as object
-use Rattle.nm_statement.specs.declared.statement.Statement.{Statement}
 use Rattle.nm_statement.specs.Limits.{longest_iri}
 use Rattle.nm_reader.specs.Limits.{nothing, one_change, one_dependency, one_profile, one_statement, one_superseded}
 use Rattle.nm_reader.specs.declared.counts.Counts.{Counts}
@@ -27,13 +26,13 @@ use Rattle.nm_reader.specs.declared.fact.LinkProperty.TheVariants.{DependentOn, 
 use Rattle.nm_reader.specs.declared.place.Owner.{Owner}
 use Rattle.nm_reader.specs.declared.place.Owner.TheVariants.{OfModel, OfSubject}
 use Rattle.nm_reader.specs.declared.fact.Part.{Part}
-use Rattle.nm_reader.specs.declared.fact.Part.TheVariants.{Whole, Preconditions, Forward, Reverse}
+use Rattle.nm_reader.specs.declared.fact.Part.TheVariants.{Whole}
 use Rattle.nm_reader.specs.declared.place.Place.{Place}
-use Rattle.nm_reader.specs.declared.place.Place.TheVariants.{BeforeRoot, InRoot, InHeader, InBody, InRest, InSection, InObject, InLiteral, InLink, InSkipped, AfterRoot}
+use Rattle.nm_reader.specs.declared.place.Place.TheVariants.{InRoot, InHeader, InSection, InObject, InLiteral, InLink, InSkipped}
 use Rattle.nm_reader.specs.declared.place.Role.{Role}
 use Rattle.nm_reader.specs.declared.place.Role.TheVariants.{RootElement, EmptyRoot, ModelHeader, HeaderText, HeaderLink, OtherProperty, SectionElement, ObjectElement, PropertyElement, NoHeader, Stray, Nested}
 use Rattle.nm_reader.specs.declared.fact.TextProperty.{TextProperty}
-use Rattle.nm_reader.specs.declared.fact.TextProperty.TheVariants.{Created, ScenarioTime, Version, Description, Authority, Profile}
+use Rattle.nm_reader.specs.declared.fact.TextProperty.TheVariants.{Profile}
 use Rattle.nm_reader.specs.declared.attributes.Allowed.{Allowed}
 use Rattle.nm_reader.specs.declared.attributes.Allowed.TheVariants.{OfRoot, OfIdentity, OfSection, OfProperty}
 use Rattle.nm_reader.specs.declared.meaning.Meaning.{Meaning}

@@ -1,7 +1,6 @@
 -- What a document tells, tag by tag, and the model that it makes (IEC 61970-552).
 use Rattle.std.specs.Prelude.{ℕ, List, [], ◌∷◌, Option, None, Some}
 use Rattle.std.specs.List.{filter_map}
-use Rattle.std.specs.Option.{option_map}
 use Rattle.nm_ident.specs.Order.{text_cmp}
 use Rattle.nm_ident.specs.Rising.{rising_by}
 use Rattle.nm_model.specs.Header.{rising_ids}

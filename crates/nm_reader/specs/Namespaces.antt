@@ -1,5 +1,5 @@
 -- What a tag declares, and what names mean (Namespaces in XML, sections 3 to 6).
-use Rattle.std.specs.Prelude.{ℕ, List, [], ◌∷◌, ◌++◌, length, map, Bool, true, false, ◌&&◌, ◌||◌, not, nat_le, codes, if◌then◌else◌, Option, None, Some, is_none, is_some}
+use Rattle.std.specs.Prelude.{ℕ, List, [], ◌∷◌, ◌++◌, length, Bool, true, false, ◌&&◌, not, nat_le, codes, if◌then◌else◌, Option, None, Some, is_some}
 use Rattle.std.specs.List.{filter_map, list_all, list_any}
 use Rattle.nm_ident.specs.Name.{is_namespace}
 use Rattle.nm_terms.specs.Bytes.{same_text}

@@ -1,24 +1,18 @@
 -- The places of a document, and what an element is in its place (RDF/XML, section 7; IEC 61970-552).
-use Rattle.std.specs.Prelude.{ℕ, List, [], ◌∷◌, Bool, true, false, ◌&&◌, ◌||◌, not, codes, if◌then◌else◌, Option, None, Some, is_none, is_some}
-use Rattle.std.specs.List.{list_any}
+use Rattle.std.specs.Prelude.{ℕ, List, [], ◌∷◌, Bool, ◌&&◌, ◌||◌, not, codes, if◌then◌else◌}
 use Rattle.nm_ident.specs.Name.{dm_namespace, md_namespace, rdf_namespace}
 use Rattle.nm_terms.specs.Bytes.{same_text}
 use Rattle.nm_ident.specs.QualifiedName.{QualifiedName}
-use Rattle.nm_ident.specs.declared.ident.Ident.{Ident}
 use Rattle.nm_reader.specs.Namespaces.{same_name}
 use Rattle.nm_reader.specs.declared.fact.Kind.{Kind}
 use Rattle.nm_reader.specs.declared.fact.Kind.TheVariants.{Full, Difference}
-use Rattle.nm_reader.specs.declared.fact.LinkProperty.{LinkProperty}
 use Rattle.nm_reader.specs.declared.fact.LinkProperty.TheVariants.{DependentOn, Supersedes}
-use Rattle.nm_reader.specs.declared.place.Owner.{Owner}
-use Rattle.nm_reader.specs.declared.place.Owner.TheVariants.{OfModel, OfSubject}
 use Rattle.nm_reader.specs.declared.fact.Part.{Part}
 use Rattle.nm_reader.specs.declared.fact.Part.TheVariants.{Whole, Preconditions, Forward, Reverse}
 use Rattle.nm_reader.specs.declared.place.Place.{Place}
 use Rattle.nm_reader.specs.declared.place.Place.TheVariants.{BeforeRoot, InRoot, InHeader, InBody, InRest, InSection, InObject, InLiteral, InLink, InSkipped, AfterRoot}
 use Rattle.nm_reader.specs.declared.place.Role.{Role}
-use Rattle.nm_reader.specs.declared.place.Role.TheVariants.{RootElement, EmptyRoot, ModelHeader, HeaderText, HeaderLink, OtherProperty, SectionElement, ObjectElement, PropertyElement, NoHeader, Stray, Nested}
-use Rattle.nm_reader.specs.declared.fact.TextProperty.{TextProperty}
+use Rattle.nm_reader.specs.declared.place.Role.TheVariants.{RootElement, ModelHeader, HeaderText, HeaderLink, OtherProperty, SectionElement, ObjectElement, PropertyElement, NoHeader, Stray, Nested}
 use Rattle.nm_reader.specs.declared.fact.TextProperty.TheVariants.{Created, ScenarioTime, Version, Description, Authority, Profile}
 
 abbrev pub rdf : List ℕ → QualifiedName

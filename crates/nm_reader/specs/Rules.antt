@@ -1,17 +1,15 @@
 -- The rules on documents, in their order: where each applies, and the code that it gives.
-use Rattle.std.specs.Prelude.{ℕ, List, [], ◌∷◌, ◌++◌, length, Bool, true, false, ◌&&◌, ◌||◌, not, nat_le, codes, if◌then◌else◌, Option, None, Some, is_none, is_some}
+use Rattle.std.specs.Prelude.{ℕ, List, [], ◌∷◌, ◌++◌, length, Bool, true, false, ◌&&◌, ◌||◌, not, nat_le, if◌then◌else◌, Option, None, Some, is_none}
 use Rattle.nm_reader.specs.Context.{Context, is_whole, tag_at}
 use Rattle.nm_reader.specs.Opened.{Opened}
 use Rattle.nm_reader.specs.Cutting.{Here, Spelt, Left, Ended, Unfinished, NoPiece, More}
 use Rattle.nm_reader.specs.Document.{is_read_encoding}
 use Rattle.nm_statement.specs.Limits.{longest_literal}
 use Rattle.nm_reader.specs.Limits.{is_within_limits, plus}
-use Rattle.nm_reader.specs.Meaning.{are_allowed, counted_by, has_short_iris, meaning_of, told_by}
+use Rattle.nm_reader.specs.Meaning.{are_allowed, has_short_iris, told_by}
 use Rattle.nm_reader.specs.Namespaces.{are_spelt_once, has_declared_prefixes, has_namespace, same_name, same_spelling}
-use Rattle.nm_piece.specs.declared.piece.Attribute.{Attribute}
-use Rattle.nm_piece.specs.declared.piece.Piece.{Piece}
 use Rattle.nm_piece.specs.declared.piece.QName.{QName}
-use Rattle.nm_piece.specs.declared.piece.Piece.TheVariants.{Start, Doctype, Open, Close, Text, Skip}
+use Rattle.nm_piece.specs.declared.piece.Piece.TheVariants.{Start, Doctype, Open, Close, Text}
 use Rattle.nm_reader.specs.Place.{root_name}
 use Rattle.nm_reader.specs.Tag.{Tag, counted_by_tag, element_of, given_of, meaning_of_tag, role_of_tag, scope_of}
 use Rattle.nm_reader.specs.Texts.{may_end}
@@ -19,9 +17,9 @@ use Rattle.nm_text.specs.White.{is_white_text}
 use Rattle.nm_reader.specs.declared.fault.Code.{Code}
 use Rattle.nm_reader.specs.declared.fault.Code.TheVariants as code
 use Rattle.nm_reader.specs.declared.place.Place.{Place}
-use Rattle.nm_reader.specs.declared.place.Place.TheVariants.{InRoot, InLiteral, InSkipped}
+use Rattle.nm_reader.specs.declared.place.Place.TheVariants.{InLiteral, InSkipped}
 use Rattle.nm_reader.specs.declared.place.Role.{Role}
-use Rattle.nm_reader.specs.declared.place.Role.TheVariants.{RootElement, EmptyRoot, ModelHeader, HeaderText, HeaderLink, OtherProperty, SectionElement, ObjectElement, PropertyElement, NoHeader, Stray, Nested}
+use Rattle.nm_reader.specs.declared.place.Role.TheVariants.{EmptyRoot, ModelHeader, HeaderText, HeaderLink, ObjectElement, PropertyElement, NoHeader, Stray, Nested}
 
 -- a rule applies by what stands before a place and at it
 pub record Rule : Type 0 where

@@ -1,12 +1,9 @@
 -- What the reader's code does with one piece, in the words of the definitions.
-use Rattle.std.specs.Prelude.{◌≡◌, ℕ, List, ◌∷◌, ◌++◌, Bool, true, ◌&&◌, ◌||◌, not, nat_le, length, if◌then◌else◌, Option, None, Some, is_some}
+use Rattle.std.specs.Prelude.{◌≡◌, ℕ, List, ◌∷◌, ◌++◌, Bool, true, if◌then◌else◌, Option, None, Some, is_some}
 use Rattle.std.specs.List.{list_all}
 use Rattle.nm_ident.specs.Name.{is_name}
-use Rattle.nm_ident.specs.QualifiedName.{QualifiedName}
-use Rattle.nm_piece.specs.declared.piece.Attribute.{Attribute}
 use Rattle.nm_piece.specs.declared.piece.Piece.{Piece}
-use Rattle.nm_piece.specs.declared.piece.Piece.TheVariants.{Start, Doctype, Open, Close, Text, Skip}
-use Rattle.nm_statement.specs.Limits.{longest_literal}
+use Rattle.nm_piece.specs.declared.piece.Piece.TheVariants.{Open, Text}
 use Rattle.nm_statement.specs.Literal.{is_literal}
 use Rattle.nm_text.specs.Characters.{is_text}
 use Rattle.nm_reader.specs.Context.{Context, after}
@@ -17,7 +14,6 @@ use Rattle.nm_reader.specs.declared.fault.Code.TheVariants as code
 use Rattle.nm_reader.specs.Opened.{Opened}
 use Rattle.nm_reader.specs.declared.place.Place.{Place}
 use Rattle.nm_reader.specs.declared.place.Place.TheVariants.{InLiteral}
-use Rattle.nm_reader.specs.declared.place.Role.{Role}
 use Rattle.nm_reader.specs.declared.refusal.Refusal.{Refusal}
 use Rattle.nm_reader.specs.declared.refusal.Refusal.TheVariants as refusal
 use Rattle.nm_reader.specs.Limits.{is_within_limits, plus}

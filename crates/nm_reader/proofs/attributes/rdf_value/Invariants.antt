@@ -1,9 +1,6 @@
-use Rattle.std.proofs.Common.{◌≡◌, ◌++◌, length}
-use Rattle.std.specs.List.{list_all, list_any}
-use Rattle.nm_reader.specs.Context.{scope_in}
+use Rattle.std.proofs.Common.{◌≡◌, length}
 use Rattle.nm_reader.specs.Meaning as spec
-use Rattle.nm_reader.specs.Namespaces.{given_by as given_by_of}
-use Rattle.nm_reader.specs.Seen.{all_seen, seen}
+use Rattle.nm_reader.specs.Seen.{all_seen}
 use Rattle.nm_reader.proofs.attributes.rdf_value.Given as goal
 
 abbrev pub invariant-loop-rest : goal.invariant-loop-rest

@@ -1,4 +1,4 @@
-use Rattle.std.proofs.Common.{◌≡◌, ◌∙◌, ◌==◌, ap, length, Bool}
+use Rattle.std.proofs.Common.{◌≡◌, ◌==◌, length}
 use Rattle.nm_reader.specs.Namespaces.{are_distinct_by}
 use Rattle.nm_reader.proofs.Sorting.{distinct_by_sorting}
 use Rattle.nm_reader.proofs.distinct.are_distinct.Goals as goal

@@ -1,4 +1,4 @@
-use Rattle.std.proofs.Common.{◌≡◌, ◌∙◌, ◌<◌, ℕ, List, [], ◌∷◌, Option, None, Some, refl, sym, ap, length, true, false}
+use Rattle.std.proofs.Common.{◌≡◌, ◌∙◌, ℕ, List, [], ◌∷◌, Option, None, Some, refl, sym, ap, length, true, false}
 use Rattle.std.specs.Fmt.{option_append}
 use Rattle.std.specs.Prelude.{is_some, is_none}
 use Rattle.nm_text.specs.Meaning.{meaning_of}

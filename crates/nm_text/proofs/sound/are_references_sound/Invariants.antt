@@ -1,5 +1,4 @@
-use Rattle.std.proofs.Common.{◌≡◌, Some, length}
-use Rattle.std.specs.Fmt.{option_append}
+use Rattle.std.proofs.Common.{◌≡◌, length}
 use Rattle.std.specs.Prelude.{is_some}
 use Rattle.nm_text.specs.Meaning.{meaning_of}
 use Rattle.nm_text.specs.declared.meaning.Form.TheVariants.{Run, Value}
