@@ -38,7 +38,8 @@ pub trait Source {
     /// them at the front of `buf` and returns their number. On a `buf` that is not empty 0 is the
     /// end of input.
     ///
-    /// `Failed` comes only where the count of faults rose, and then no byte was taken.
+    /// `Failed` comes only where the count of faults rose, and then no byte was taken. Any other
+    /// call leaves the count as it is.
     fn read(&mut self, buf: &mut [u8]) -> Result<usize, Failed>
         ensures within { ReadsAtMost result buf.new }
         ensures bytes { ReadConsumes (left self.old) (left self.new) result buf.new }
@@ -60,7 +61,8 @@ pub trait Sink {
     /// Appends some of the first bytes of `bytes` and returns their number, which is at least 1
     /// where `bytes` is not empty.
     ///
-    /// `Failed` comes only where the count of faults rose, and then no byte was appended.
+    /// `Failed` comes only where the count of faults rose, and then no byte was appended. Any other
+    /// call leaves the count as it is.
     fn write(&mut self, bytes: &[u8]) -> Result<usize, Failed>
         ensures within { WritesAtMost result bytes.now }
         ensures progress { IfOk result (λ n. 0 < length bytes.now → 0 < n) }
@@ -71,8 +73,8 @@ pub trait Sink {
 
 /// Writes all of `bytes`, in as many calls as the sink asks for.
 ///
-/// `Failed` comes only where the sink's count of faults rose in this call. Then some of the first
-/// bytes were appended, but not all.
+/// `Failed` comes where the sink's count of faults rose in this call, and only there. Then some of
+/// the first bytes were appended, but not all.
 ///
 /// ```text
 /// let mut sink = SteadySink::new(alloc, 64)?;

@@ -15,7 +15,7 @@ use Rattle.nm_reader.specs.Read.{read_due, read_of}
 use Rattle.nm_model.specs.declared.document.Document.{Document}
 use Rattle.nm_reader.specs.declared.error.ReadError.{ReadError}
 use Rattle.nm_reader.specs.declared.error.ReadError.TheVariants as read_error
-use Rattle.nm_session.specs.Answered.{Due, Answers, AppendsPrefix, EndsAs, EndsUnlessFaults, is_ending}
+use Rattle.nm_session.specs.Answered.{Due, Answers, AppendsPrefix, EndsAs, EndsUnlessFaults, NoneFailed, is_ending}
 use Rattle.nm_cli.specs.Report.{reported}
 use Rattle.nm_cli.specs.Reported.{ReportHasCause, WriteFails}
 use Rattle.nm_cli.specs.Failures.{status_of}
@@ -75,19 +75,19 @@ part_report (Some input) after bytes seen report failure status written now b a 
 
 -- ---- completeness
 
--- what a report is due is an ending that it can have
-ending_cause : (report : Report) (body : Result Document ReadError) (status : Status) (read_before read_after write_before write_after : ℕ) → status ≡ (reported report body).ending
-    → ReportHasCause status read_before read_after write_before write_after
-ending_cause report (Ok model) status a b c d e = subst (λ (s : Status). ReportHasCause s a b c d) (sym e) tt
-ending_cause report (Err (read_error.Fault fault)) status a b c d e = subst (λ (s : Status). ReportHasCause s a b c d) (sym e) tt
-ending_cause report (Err read_error.NoMemory) status a b c d e = subst (λ (s : Status). ReportHasCause s a b c d) (sym e) tt
+-- what a report is due is an ending that it can have where no call failed
+pub ending_cause : (report : Report) (body : Result Document ReadError) (status : Status) (read_before read_after write_before write_after : ℕ) → NoneFailed read_before read_after write_before write_after
+    → status ≡ (reported report body).ending → ReportHasCause status read_before read_after write_before write_after
+ending_cause report (Ok model) status a b c d none e = subst (λ (s : Status). ReportHasCause s a b c d) (sym e) none
+ending_cause report (Err (read_error.Fault fault)) status a b c d none e = subst (λ (s : Status). ReportHasCause s a b c d) (sym e) none
+ending_cause report (Err read_error.NoMemory) status a b c d none e = subst (λ (s : Status). ReportHasCause s a b c d) (sym e) none
 
 -- without a fault that is told, what is due was written, or memory was wanting
 complete_by : (due : Due) (status : Status) (written now : Option (List ℕ)) (read_before read_after write_before write_after : ℕ)
     → ReportHasCause status read_before read_after write_before write_after → Answers due status written now
     → EndsUnlessFaults due status written now read_before read_after write_before write_after
-complete_by due ReadFault written now a b c d h answers no_read no_write = absurd (no_read h)
-complete_by due WriteFault written now a b c d h answers no_read no_write = absurd (no_write h)
+complete_by due ReadFault written now a b c d h answers no_read no_write = absurd (no_read h.0)
+complete_by due WriteFault written now a b c d h answers no_read no_write = absurd (no_write h.1)
 complete_by due Done written now a b c d h answers no_read no_write = inl (answers.whole refl)
 complete_by due Refused written now a b c d h answers no_read no_write = inl (answers.whole refl)
 complete_by due NoMemory written now a b c d h answers no_read no_write = inr refl
@@ -99,8 +99,8 @@ complete_by due DoorFault written now a b c d h answers no_read no_write = absur
 
 -- the same of the report on an input
 pub is_complete : (left : Option (List ℕ)) (report : Report) (seen : List ℕ) (status : Status) (written now : Option (List ℕ)) (read_before read_after write_before write_after : ℕ)
-    → EndsAs (reported report (read_due seen)) status written now → IfSome left (λ input. Answers (reported report (read_due input)) status written now)
+    → NoneFailed read_before read_after write_before write_after → EndsAs (reported report (read_due seen)) status written now → IfSome left (λ input. Answers (reported report (read_due input)) status written now)
     → IfSome left (λ input. EndsUnlessFaults (reported report (read_due input)) status written now read_before read_after write_before write_after)
-is_complete None report seen status written now a b c d ends answers = tt
-is_complete (Some input) report seen status written now a b c d ends answers =
-    complete_by (reported report (read_due input)) status written now a b c d (ending_cause report (read_due seen) status a b c d ends.ending) answers
+is_complete None report seen status written now a b c d none ends answers = tt
+is_complete (Some input) report seen status written now a b c d none ends answers =
+    complete_by (reported report (read_due input)) status written now a b c d (ending_cause report (read_due seen) status a b c d none ends.ending) answers

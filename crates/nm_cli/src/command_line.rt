@@ -1,9 +1,9 @@
 // A run of the program, over its input and its output.
 ghost use Rattle.std.specs.Prelude.{◌≡◌, ◌≤◌, ◌↔◌, map, None, IfSome, string_bytes};
 ghost use Rattle.nm_base.specs.declared.outcome.Status.TheVariants.{Usage};
-ghost use Rattle.nm_session.specs.Answered.{Answers, EndsUnlessFaults, Untouched};
+ghost use Rattle.nm_session.specs.Answered.{Untouched};
 ghost use Rattle.nm_cli.specs.CommandLine.{HasProjects, form_of};
-ghost use Rattle.nm_cli.specs.Forms.{due_by, FormHasCause, FormReads};
+ghost use Rattle.nm_cli.specs.Forms.{FormAnswers, FormCompletes, FormHasCause, FormReads};
 
 use crate::form::Form;
 use crate::generated::write_generated;
@@ -29,8 +29,8 @@ use std::alloc::Global;
 /// answer, or to more than the 67,108,864 bytes that a document may have.
 ///
 /// With any other words the status is `Usage`, and nothing is read or written. `ReadFault` and
-/// `WriteFault` say that the input or the output failed, and `NoMemory` that memory ran out: some
-/// of the first bytes of what was due were written then.
+/// `WriteFault` come where a call of the input or of the output failed, and only there, and
+/// `NoMemory` where memory ran out: some of the first bytes of what was due were written then.
 ///
 /// ```text
 /// let words = vec![in alloc; "canon".to_string(alloc)?]?;
@@ -48,12 +48,12 @@ pub fn run<S: Source, K: Sink>(
     ensures unwritten { form_of (map string_bytes words.now.items) ≡ None → Untouched (K.written output.old) (K.written output.new) (K.faults output.old) (K.faults output.new) }
 
     // A form is answered as it is due on the bytes that the input had left.
-    ensures answers { IfSome (form_of (map string_bytes words.now.items)) (λ form. IfSome (S.left input.old) (λ bytes.
-        Answers (due_by form bytes) result (K.written output.old) (K.written output.new))) }
+    ensures answers { IfSome (form_of (map string_bytes words.now.items)) (λ form.
+        FormAnswers form (S.left input.old) result (K.written output.old) (K.written output.new)) }
     ensures cause { IfSome (form_of (map string_bytes words.now.items)) (λ form.
-        FormHasCause form result (S.faults input.old) (S.faults input.new) (K.faults output.old) (K.faults output.new)) }
-    ensures complete { IfSome (form_of (map string_bytes words.now.items)) (λ form. IfSome (S.left input.old) (λ bytes.
-        EndsUnlessFaults (due_by form bytes) result (K.written output.old) (K.written output.new) (S.faults input.old) (S.faults input.new) (K.faults output.old) (K.faults output.new))) }
+        FormHasCause form result (S.faults input.old) (S.faults input.new) (K.faults output.old) (K.faults output.new) (S.left input.new)) }
+    ensures complete { IfSome (form_of (map string_bytes words.now.items)) (λ form.
+        FormCompletes form (S.left input.old) result (K.written output.old) (K.written output.new) (S.faults input.old) (S.faults input.new) (K.faults output.old) (K.faults output.new)) }
     ensures read { IfSome (form_of (map string_bytes words.now.items)) (λ form. FormReads form result (S.left input.old) (S.left input.new) (S.faults input.old) (S.faults input.new)) }
 
     ensures reads_kept { S.faults input.old ≤ S.faults input.new }
@@ -70,10 +70,9 @@ pub fn run<S: Source, K: Sink>(
 /// Runs one form.
 fn perform<S: Source, K: Sink>(alloc: Global, form: Form, input: &mut S, output: &mut K) -> Status
     requires { HasProjects form }
-    ensures answers { IfSome (S.left input.old) (λ bytes. Answers (due_by form bytes) result (K.written output.old) (K.written output.new)) }
-    ensures cause { FormHasCause form result (S.faults input.old) (S.faults input.new) (K.faults output.old) (K.faults output.new) }
-    ensures complete { IfSome (S.left input.old) (λ bytes.
-        EndsUnlessFaults (due_by form bytes) result (K.written output.old) (K.written output.new) (S.faults input.old) (S.faults input.new) (K.faults output.old) (K.faults output.new)) }
+    ensures answers { FormAnswers form (S.left input.old) result (K.written output.old) (K.written output.new) }
+    ensures cause { FormHasCause form result (S.faults input.old) (S.faults input.new) (K.faults output.old) (K.faults output.new) (S.left input.new) }
+    ensures complete { FormCompletes form (S.left input.old) result (K.written output.old) (K.written output.new) (S.faults input.old) (S.faults input.new) (K.faults output.old) (K.faults output.new) }
     ensures read { FormReads form result (S.left input.old) (S.left input.new) (S.faults input.old) (S.faults input.new) }
     ensures reads_kept { S.faults input.old ≤ S.faults input.new }
     ensures writes_kept { K.faults output.old ≤ K.faults output.new }

@@ -1,11 +1,11 @@
 // A session that is generated, and written.
-ghost use Rattle.nm_cli.specs.Forms.{WriteHasCause, generated};
-ghost use Rattle.nm_cli.specs.Reported.{WriteFails};
+ghost use Rattle.nm_cli.specs.Forms.{EndsUnlessWriteFault, WriteHasCause, generated};
+ghost use Rattle.nm_cli.specs.Reported.{CountsWrites};
 ghost use Rattle.nm_gen.specs.Limits.{most_projects};
 ghost use Rattle.nm_gen.specs.Stream.{stream_of};
-ghost use Rattle.nm_session.specs.Answered.{Answers, AppendsPrefix, EndsUnlessFaults};
+ghost use Rattle.nm_session.specs.Answered.{Answers, AppendsPrefix};
 ghost use Rattle.std.specs.Io.KnownBytes.{Appends};
-ghost use Rattle.std.specs.Prelude.{◌≡◌, ◌≤◌, ℕ, IfErr, OnErr, OnOk};
+ghost use Rattle.std.specs.Prelude.{◌≡◌, ◌≤◌, OnErr, OnOk};
 
 use crate::failure::Failure;
 use crate::report::write_text;
@@ -19,7 +19,7 @@ pub fn write_generated<K: Sink>(alloc: Global, projects: u32, seed: u32, sink: &
     requires few { projects ≤ most_projects }
     ensures answers { Answers (generated projects seed) result (K.written sink.old) (K.written sink.new) }
     ensures cause { WriteHasCause result (K.faults sink.old) (K.faults sink.new) }
-    ensures complete { (read_before read_after : ℕ) → EndsUnlessFaults (generated projects seed) result (K.written sink.old) (K.written sink.new) read_before read_after (K.faults sink.old) (K.faults sink.new) }
+    ensures complete { EndsUnlessWriteFault (generated projects seed) result (K.written sink.old) (K.written sink.new) (K.faults sink.old) (K.faults sink.new) }
     ensures writes_kept { K.faults sink.old ≤ K.faults sink.new }
     ensures beside_stays { K.beside sink.new ≡ K.beside sink.old }
 {
@@ -39,8 +39,7 @@ fn write_stream<K: Sink>(
     requires few { projects ≤ most_projects }
     ensures whole { OnOk result (Appends (K.written sink.old) (K.written sink.new) (stream_of projects seed)) }
     ensures front { OnErr result (AppendsPrefix (K.written sink.old) (K.written sink.new) (stream_of projects seed)) }
-    ensures failure { IfErr result (λ failure. WriteFails failure (K.faults sink.old) (K.faults sink.new)) }
-    ensures writes_kept { K.faults sink.old ≤ K.faults sink.new }
+    ensures counted { CountsWrites (K.faults sink.old) (K.faults sink.new) result }
     ensures beside_stays { K.beside sink.new ≡ K.beside sink.old }
 {
     let stream = generate(alloc, projects, seed)?;

@@ -1,10 +1,10 @@
 // What is written of a document.
-ghost use Rattle.std.specs.Prelude.{◌≡◌, ◌≤◌, IfOk, IfErr, IfSome, OnErr, OnOk};
+ghost use Rattle.std.specs.Prelude.{◌≡◌, ◌≤◌, IfOk, IfSome, OnErr, OnOk};
 ghost use Rattle.std.specs.Io.KnownBytes.{Appends};
 ghost use Rattle.nm_session.specs.Answered.{Answers, AppendsPrefix, EndsAs, EndsUnlessFaults};
 ghost use Rattle.nm_reader.specs.Read.{read_due};
 ghost use Rattle.nm_cli.specs.Report.{counts_line, fault_report, report_of, reported};
-ghost use Rattle.nm_cli.specs.Reported.{ReportHasCause, ReadsThrough, WriteFails};
+ghost use Rattle.nm_cli.specs.Reported.{CountsWrites, ReportHasCause, ReadsThrough};
 ghost use Rattle.nm_writer.specs.Canonical.{canonical_of};
 
 use crate::counts::counts_line;
@@ -61,8 +61,7 @@ fn write_report<K: Sink>(
 ) -> Result<Status, Failure>
     ensures whole { IfOk result (λ status. EndsAs (reported report (read_due bytes.now)) status (K.written sink.old) (K.written sink.new)) }
     ensures front { OnErr result (AppendsPrefix (K.written sink.old) (K.written sink.new) (reported report (read_due bytes.now)).replies) }
-    ensures failure { IfErr result (λ failure. WriteFails failure (K.faults sink.old) (K.faults sink.new)) }
-    ensures writes_kept { K.faults sink.old ≤ K.faults sink.new }
+    ensures counted { CountsWrites (K.faults sink.old) (K.faults sink.new) result }
     ensures beside_stays { K.beside sink.new ≡ K.beside sink.old }
 {
     match read(alloc, bytes) {
@@ -87,8 +86,7 @@ fn write_model<K: Sink>(
 ) -> Result<(), Failure>
     ensures whole { OnOk result (Appends (K.written sink.old) (K.written sink.new) (report_of report document.now)) }
     ensures front { OnErr result (AppendsPrefix (K.written sink.old) (K.written sink.new) (report_of report document.now)) }
-    ensures failure { IfErr result (λ failure. WriteFails failure (K.faults sink.old) (K.faults sink.new)) }
-    ensures writes_kept { K.faults sink.old ≤ K.faults sink.new }
+    ensures counted { CountsWrites (K.faults sink.old) (K.faults sink.new) result }
     ensures beside_stays { K.beside sink.new ≡ K.beside sink.old }
 {
     match report {
@@ -101,8 +99,7 @@ fn write_model<K: Sink>(
 fn write_canonical<K: Sink>(alloc: Global, document: &Document, sink: &mut K) -> Result<(), Failure>
     ensures whole { OnOk result (Appends (K.written sink.old) (K.written sink.new) (canonical_of document.now)) }
     ensures front { OnErr result (AppendsPrefix (K.written sink.old) (K.written sink.new) (canonical_of document.now)) }
-    ensures failure { IfErr result (λ failure. WriteFails failure (K.faults sink.old) (K.faults sink.new)) }
-    ensures writes_kept { K.faults sink.old ≤ K.faults sink.new }
+    ensures counted { CountsWrites (K.faults sink.old) (K.faults sink.new) result }
     ensures beside_stays { K.beside sink.new ≡ K.beside sink.old }
 {
     Ok(write_to(alloc, document, sink)?)
@@ -112,8 +109,7 @@ fn write_canonical<K: Sink>(alloc: Global, document: &Document, sink: &mut K) ->
 fn write_counts<K: Sink>(alloc: Global, document: &Document, sink: &mut K) -> Result<(), Failure>
     ensures whole { OnOk result (Appends (K.written sink.old) (K.written sink.new) (counts_line document.now)) }
     ensures front { OnErr result (AppendsPrefix (K.written sink.old) (K.written sink.new) (counts_line document.now)) }
-    ensures failure { IfErr result (λ failure. WriteFails failure (K.faults sink.old) (K.faults sink.new)) }
-    ensures writes_kept { K.faults sink.old ≤ K.faults sink.new }
+    ensures counted { CountsWrites (K.faults sink.old) (K.faults sink.new) result }
     ensures beside_stays { K.beside sink.new ≡ K.beside sink.old }
 {
     let line = counts_line(alloc, document)?;
@@ -124,8 +120,7 @@ fn write_counts<K: Sink>(alloc: Global, document: &Document, sink: &mut K) -> Re
 fn write_fault<K: Sink>(alloc: Global, fault: Fault, sink: &mut K) -> Result<(), Failure>
     ensures whole { OnOk result (Appends (K.written sink.old) (K.written sink.new) (fault_report fault)) }
     ensures front { OnErr result (AppendsPrefix (K.written sink.old) (K.written sink.new) (fault_report fault)) }
-    ensures failure { IfErr result (λ failure. WriteFails failure (K.faults sink.old) (K.faults sink.new)) }
-    ensures writes_kept { K.faults sink.old ≤ K.faults sink.new }
+    ensures counted { CountsWrites (K.faults sink.old) (K.faults sink.new) result }
     ensures beside_stays { K.beside sink.new ≡ K.beside sink.old }
 {
     let line = fault_line(alloc, b"fault", fault)?;
@@ -136,8 +131,7 @@ fn write_fault<K: Sink>(alloc: Global, fault: Fault, sink: &mut K) -> Result<(),
 pub fn write_text<K: Sink>(sink: &mut K, text: &[u8]) -> Result<(), Failure>
     ensures whole { OnOk result (Appends (K.written sink.old) (K.written sink.new) text.now) }
     ensures front { OnErr result (AppendsPrefix (K.written sink.old) (K.written sink.new) text.now) }
-    ensures failure { IfErr result (λ failure. WriteFails failure (K.faults sink.old) (K.faults sink.new)) }
-    ensures writes_kept { K.faults sink.old ≤ K.faults sink.new }
+    ensures counted { CountsWrites (K.faults sink.old) (K.faults sink.new) result }
     ensures beside_stays { K.beside sink.new ≡ K.beside sink.old }
 {
     write_whole(sink, text).map_err(|_| Failure::WriteFault)

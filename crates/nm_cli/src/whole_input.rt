@@ -1,7 +1,7 @@
 // Reading a document to its end.
-ghost use Rattle.std.specs.Prelude.{◌≡◌, ◌<◌, ◌≤◌, ◌⊎◌, length, take, IfOk, IfErr};
+ghost use Rattle.std.specs.Prelude.{◌≡◌, ◌<◌, ◌≤◌, ◌⊎◌, length, take, IfOk};
 ghost use Rattle.std.specs.Io.KnownBytes.{Consumes, IsAtEnd};
-ghost use Rattle.nm_cli.specs.Reported.{ReadFails};
+ghost use Rattle.nm_cli.specs.Reported.{CountsReads};
 ghost use Rattle.nm_model.specs.Limits.{longest_document};
 
 use crate::failure::Failure;
@@ -16,8 +16,7 @@ const CHUNK: usize = 65_536;
 pub fn read_through<S: Source>(alloc: Global, source: &mut S) -> Result<Vec<u8>, Failure>
     ensures taken { IfOk result (λ bytes. Consumes (S.left source.old) (S.left source.new) bytes.items) }
     ensures through { IfOk result (λ bytes. IsAtEnd (S.left source.new) ⊎ (longest_document < length bytes.items)) }
-    ensures failure { IfErr result (λ failure. ReadFails failure (S.faults source.old) (S.faults source.new)) }
-    ensures reads_kept { S.faults source.old ≤ S.faults source.new }
+    ensures counted { CountsReads (S.faults source.old) (S.faults source.new) result }
     ensures beside_stays { S.beside source.new ≡ S.beside source.old }
 {
     let mut bytes = Vec::new(alloc);
@@ -38,8 +37,7 @@ fn read_chunk<S: Source>(source: &mut S, chunk: &mut [u8]) -> Result<usize, Fail
     ensures within { IfOk result (λ count. count ≤ length chunk.new) }
     ensures taken { IfOk result (λ count. Consumes (S.left source.old) (S.left source.new) (take count chunk.new)) }
     ensures end { IfOk result (λ count. count ≡ 0 → IsAtEnd (S.left source.new)) }
-    ensures failure { IfErr result (λ failure. ReadFails failure (S.faults source.old) (S.faults source.new)) }
-    ensures reads_kept { S.faults source.old ≤ S.faults source.new }
+    ensures counted { CountsReads (S.faults source.old) (S.faults source.new) result }
     ensures beside_stays { S.beside source.new ≡ S.beside source.old }
 {
     source.read(chunk).map_err(|_| Failure::ReadFault)

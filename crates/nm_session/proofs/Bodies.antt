@@ -11,8 +11,8 @@ use Rattle.nm_session.specs.declared.body.Body.{Body}
 use Rattle.nm_session.specs.declared.body.Body.TheVariants as body
 use Rattle.nm_session.specs.declared.body.Spelling.{Spelling}
 use Rattle.nm_session.specs.declared.body.Spelling.TheVariants.{Good, Bad}
-use Rattle.nm_session.specs.declared.turn.State.{State}
-use Rattle.nm_session.specs.declared.turn.State.TheVariants.{Empty, Store}
+use Rattle.nm_session.specs.declared.state.State.{State}
+use Rattle.nm_session.specs.declared.state.State.TheVariants.{Empty, Store}
 use Rattle.nm_session.specs.PlainWord.{PlainWord, Base, File, Revise, Redate, Withdraw, Assemble, Object, Timeline, Projects, Log, Summary, End}
 
 -- a command without a document is answered whatever stands for one

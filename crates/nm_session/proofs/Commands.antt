@@ -11,10 +11,10 @@ use Rattle.nm_session.specs.Turns.{TakesCommand, TakesTurn, TurnStops, NoTurnBy}
 use Rattle.nm_session.specs.Buffered.{Buffered}
 use Rattle.nm_session.specs.Limits.{longest_line, longest_session}
 use Rattle.nm_session.specs.Input.{coming, in_session, GivesLine, GivesBody, NoLineBy, NoBodyBy}
-use Rattle.nm_session.specs.Stream.{Command, BadLine, Short, by_line, by_word, with_body, next_in, is_line_feed, line_end}
+use Rattle.nm_session.specs.Stream.{Command, BadLine, Short, by_line, by_word, command_with_body, next_in, is_line_feed, line_end}
 use Rattle.nm_session.specs.Word.{word_of, body_length, is_end}
 use Rattle.nm_session.specs.declared.stop.Stop.{Stop}
-use Rattle.nm_session.specs.declared.turn.State.{State}
+use Rattle.nm_session.specs.declared.state.State.{State}
 use Rattle.nm_session.specs.PlainWord.{PlainWord}
 use Rattle.nm_session.proofs.LineFeeds.{none-each, some-at}
 
@@ -102,10 +102,10 @@ bad_word state old mid (Some xs) (Some ys) line stop at gives here is bad =
     subst (λ (s : Stop). TurnStops s state old (old.ahead ++ xs)) (sym is)
     (here, next_is state old mid line _ _ gives.taken gives.short gives.whole gives.given gives.limit ∙ bad _)
 
-short_of : (word : PlainWord) (bytes : List ℕ) → length bytes < body_length word → with_body word bytes ≡ Short
+short_of : (word : PlainWord) (bytes : List ℕ) → length bytes < body_length word → command_with_body word bytes ≡ Short
 short_of word bytes h = ap (λ b. cond b (Command word (take (body_length word) bytes) (drop (body_length word) bytes)) Short) (lt-leb (body_length word) (length bytes) h)
 
-pub whole_of : (word : PlainWord) (bytes : List ℕ) → body_length word ≤ length bytes → with_body word bytes ≡ Command word (take (body_length word) bytes) (drop (body_length word) bytes)
+pub whole_of : (word : PlainWord) (bytes : List ℕ) → body_length word ≤ length bytes → command_with_body word bytes ≡ Command word (take (body_length word) bytes) (drop (body_length word) bytes)
 whole_of word bytes h = ap (λ b. cond b (Command word (take (body_length word) bytes) (drop (body_length word) bytes)) Short) (le-leb (body_length word) (length bytes) h)
 
 line_size : (line xs ys : List ℕ) → xs ≡ (line ++ 10 ∷ []) ++ ys → length xs ≡ length line + 1 + length ys
@@ -113,7 +113,7 @@ line_size line xs ys e = ap length e ∙ length-append (line ++ 10 ∷ []) ys �
 
 -- a document that does not stand whole behind its line
 pub no_body : (state : State) (old mid : Buffered) (before after : Option (List ℕ)) (line : List ℕ) (word : PlainWord) (status : Status) (at len : ℕ) → GivesLine old mid before after line
-    → ((bytes : List ℕ) → by_word state (word_of line) bytes ≡ with_body word bytes) → len ≡ body_length word → NoBodyBy status len mid after
+    → ((bytes : List ℕ) → by_word state (word_of line) bytes ≡ command_with_body word bytes) → len ≡ body_length word → NoBodyBy status len mid after
     → IfSome (coming old before) (λ bytes. NoTurnBy status at state old bytes)
 no_body state old mid None after line word status at len gives by is why = tt
 no_body state old mid (Some xs) None line word status at len gives by is why = absurd gives.taken
@@ -138,7 +138,7 @@ no_body state old mid (Some xs) (Some ys) line word DoorFault at len gives by is
 
 -- a whole command
 pub takes_command : (state : State) (old mid new : Buffered) (before between after : Option (List ℕ)) (line body : List ℕ) (word : PlainWord) (len : ℕ) → GivesLine old mid before between line
-    → ((bytes : List ℕ) → by_word state (word_of line) bytes ≡ with_body word bytes) → len ≡ body_length word → GivesBody mid new between after len body
+    → ((bytes : List ℕ) → by_word state (word_of line) bytes ≡ command_with_body word bytes) → len ≡ body_length word → GivesBody mid new between after len body
     → IfSome (coming old before) (λ bytes. TakesCommand state old new bytes after word body)
 takes_command state old mid new None between after line body word len gives by is whole = tt
 takes_command state old mid new (Some xs) None after line body word len gives by is whole = absurd gives.taken

@@ -9,9 +9,16 @@ use Rattle.nm_statement.specs.declared.object.Object.TheVariants.{Literal}
 use Rattle.nm_statement.specs.declared.statement.Statement.{Statement}
 use Rattle.nm_version.specs.declared.refusal.Cause.TheVariants.{Dependency, Precondition}
 use Rattle.nm_version.specs.declared.refusal.Refusal.TheVariants as refusal
-use Rattle.nm_session.specs.Reply.{projects_reply, refused_reply}
+use Rattle.nm_timeline.specs.declared.part.Part.TheVariants as part
+use Rattle.nm_version.specs.Kept.{opened}
+use Rattle.nm_version.specs.declared.command.Entry.TheVariants as entry
+use Rattle.nm_version.specs.declared.line.Line.TheVariants as line
+use Rattle.nm_model.specs.declared.header.Header.{Header}
+use Rattle.nm_session.specs.Reply.{lines_reply, projects_reply, refused_reply, statements_reply}
+use Rattle.nm_session.specs.Turn.{stays, turn_of}
+use Rattle.nm_session.specs.declared.state.State.TheVariants.{Store}
 use Rattle.nm_session.specs.Word.{dated_line, id_before_space, length_of, project_line, word_of}
-use Rattle.nm_session.specs.PlainWord.{Revise, Redate, Withdraw}
+use Rattle.nm_session.specs.PlainWord.{Log, Revise, Redate, Withdraw}
 
 -- the number of 10000000-0000-4000-8000-000000000001
 abbrev example_number : ℕ
@@ -77,3 +84,38 @@ step_that_depends : refused_reply (refusal.Step (codes "2027-01-01") example_num
     ≡ codes "refused step 2027-01-01 " ++ example_text ++ codes " dependency " ++ example_text ++ 10 ∷ []
 unfolding uuid_text uuid_on_literals
 step_that_depends = refl
+
+-- the statements of an object behind their number
+statements_of_an_object : statements_reply (named ∷ []) ≡ codes "statements 1\n#a <http://iec.ch/#name> \"North\"\n"
+unfolding digits
+statements_of_an_object = refl
+
+no_statements : statements_reply [] ≡ codes "statements 0\n"
+unfolding digits
+no_statements = refl
+
+-- a statement of the base that a project takes away
+timeline_of_a_statement : lines_reply (line.Base named ∷ line.Named (codes "2027-04-01") example_number part.Reverse named ∷ [])
+    ≡ codes "lines 2\nbase #a <http://iec.ch/#name> \"North\"\n2027-04-01 10000000-0000-4000-8000-000000000001 reverse #a <http://iec.ch/#name> \"North\"\n"
+unfolding digits uuid_text uuid_on_literals
+timeline_of_a_statement = refl
+
+abbrev header : Header
+header = record {
+  id = 5;
+  created = None;
+  scenario_time = None;
+  version = None;
+  description = None;
+  authority = None;
+  profiles = [];
+  depends = [];
+  supersedes = [];
+}
+
+-- a log with a command in it
+log_of_a_redate : turn_of (Store (record (opened (record { header = header; statements = [] }) (codes "base")) { log = entry.Redate example_number (codes "2027-05-01") ∷ [] })) Log []
+    ≡ stays (Store (record (opened (record { header = header; statements = [] }) (codes "base")) { log = entry.Redate example_number (codes "2027-05-01") ∷ [] }))
+    (codes "log 70\nbase 4\nbaseredate 10000000-0000-4000-8000-000000000001 2027-05-01\nend\n")
+unfolding digits uuid_text uuid_on_literals
+log_of_a_redate = refl

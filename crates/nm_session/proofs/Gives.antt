@@ -10,7 +10,7 @@ use Rattle.std.specs.Io.KnownBytes.{Consumes}
 use Rattle.nm_session.specs.Limits.{longest_line, longest_session}
 use Rattle.nm_session.specs.Stream.{is_line_feed}
 use Rattle.nm_session.specs.Buffered.{Buffered}
-use Rattle.nm_session.specs.Ahead.{ReadsAhead, SeekLacks, LineLacks}
+use Rattle.nm_session.specs.Ahead.{ReadsAhead, SeekLacks, LackTells, LineLacks}
 use Rattle.nm_session.specs.Input.{coming, GivesLine, GivesBody, HasNoLine}
 use Rattle.nm_session.specs.declared.lack.Lack.{Lack}
 use Rattle.nm_session.specs.declared.lack.Lack.TheVariants.{ReadFault, NoMemory, LongLine, Cut, TooMuch}
@@ -126,9 +126,10 @@ no_line_lacks lack old mid before after room no_line reads is none buffered =
       | inr full ↦ subst (λ (s : Lack). LineLacks s old before) (sym (no_line.full full.1)) (no_more_lines old mid before after room reads is full.1 none buffered)
     ]
 
-pub is_no_fault : (lack : Lack) (room : ℕ) → IsNoLine lack room → lack ≡ ReadFault → ⊥
-is_no_fault lack room no_line e =
+-- where no line ends, no call failed
+pub no_line_tells : (lack : Lack) (room before after : ℕ) (left : Option (List ℕ)) → IsNoLine lack room → after ≡ before → LackTells lack before after left
+no_line_tells lack room before after left no_line same =
     elim (eqb_tells room (longest_line + 1)) [
-      | inl long ↦ let is = no_line.long long.1 in cc
-      | inr full ↦ let is = no_line.full full.1 in cc
+      | inl long ↦ subst (λ (s : Lack). LackTells s before after left) (sym (no_line.long long.1)) same
+      | inr full ↦ subst (λ (s : Lack). LackTells s before after left) (sym (no_line.full full.1)) same
     ]

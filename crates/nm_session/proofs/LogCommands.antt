@@ -22,8 +22,8 @@ use Rattle.nm_session.specs.Stream as stream
 use Rattle.nm_session.specs.Stream.{by_word, next_in}
 use Rattle.nm_session.specs.Turn.{Turn, allows, committed, turn_of, with_base, with_body}
 use Rattle.nm_session.specs.Word.{body_length, word_of}
-use Rattle.nm_session.specs.declared.turn.State.{State}
-use Rattle.nm_session.specs.declared.turn.State.TheVariants.{Empty, Store}
+use Rattle.nm_session.specs.declared.state.State.{State}
+use Rattle.nm_session.specs.declared.state.State.TheVariants.{Empty, Store}
 use Rattle.nm_session.specs.PlainWord.{PlainWord, Base, File, Redate, Revise, Withdraw}
 
 -- ---- a command in front of a stream
@@ -49,7 +49,7 @@ module _ (state : State) (word : PlainWord) (line body rest bytes : List ℕ) (s
   pub comes : allows state word ≡ true → length body ≡ body_length word → next_in state bytes ≡ stream.Command word body rest
   comes allowed size =
       line_stands
-      ∙ ap (λ b. cond b (stream.with_body word (body ++ rest)) stream.BadLine) allowed
+      ∙ ap (λ b. cond b (stream.command_with_body word (body ++ rest)) stream.BadLine) allowed
       ∙ whole_of word (body ++ rest) (omega (arith, size, length-append body rest))
       ∙ (λ i. stream.Command word (take_at body rest (body_length word) size i) (drop_at body rest (body_length word) size i))
 

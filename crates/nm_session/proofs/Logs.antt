@@ -24,7 +24,7 @@ use Rattle.nm_session.specs.Reply.{numbered}
 use Rattle.nm_session.specs.PlainWord.{Base, End}
 use Rattle.nm_session.specs.Stream.{Outcome, behind_command, behind_reply, offset_behind, outcome, outcome_within, short_ending}
 use Rattle.nm_session.specs.Turn.{Turn, turn_of}
-use Rattle.nm_session.specs.declared.turn.State.TheVariants.{Empty, Store}
+use Rattle.nm_session.specs.declared.state.State.TheVariants.{Empty, Store}
 
 -- ---- turns
 

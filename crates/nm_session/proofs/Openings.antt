@@ -6,7 +6,7 @@ use Rattle.nm_base.specs.declared.outcome.Status.TheVariants.{Done, Refused, Usa
 use Rattle.nm_terms.specs.Due.{OrWant}
 use Rattle.nm_session.specs.Answered.{is_ending}
 use Rattle.nm_session.specs.Buffered.{Buffered}
-use Rattle.nm_session.specs.Input.{coming, IsInputStop, PlacedBy}
+use Rattle.nm_session.specs.Input.{coming, IsInputStop, PlacedBy, StatusTells}
 use Rattle.nm_session.specs.Limits.{longest_session}
 use Rattle.nm_session.specs.Opening.{CauseBy, HasCause, IsDoneIn, IsEnding, TellsEnding, error_by, opened_by, opened_from, opening_of, store_in, tells_no_ending, wants_memory}
 use Rattle.nm_session.specs.Received.{Received}
@@ -14,8 +14,8 @@ use Rattle.nm_session.specs.Stream.{Outcome, outcome}
 use Rattle.nm_session.specs.Turns.{NoTurnBy, TakesTurn, TurnStops}
 use Rattle.nm_session.specs.declared.start.OpeningError.{OpeningError}
 use Rattle.nm_session.specs.declared.stop.Stop.{Stop}
-use Rattle.nm_session.specs.declared.turn.State.{State}
-use Rattle.nm_session.specs.declared.turn.State.TheVariants.{Empty}
+use Rattle.nm_session.specs.declared.state.State.{State}
+use Rattle.nm_session.specs.declared.state.State.TheVariants.{Empty}
 use Rattle.nm_session.proofs.Sessions.{Standing, at_known, bad_outcome, cut_outcome, done_outcome, first_standing, full_outcome, stands_on}
 
 -- in between two commands
@@ -112,43 +112,43 @@ opened_stop (Some stream) stop error is placed tells =
     subst (λ (e : OpeningError). OrWant (tells_no_ending e) (opening_of stream ≡ Err e)) (sym is) (opened_unless stop.status stop.at (outcome stream) placed tells)
 
 -- without a fault of the source
-unless_fault : (status : Status) (at : ℕ) (before after : ℕ) (claim : Type 0) → CauseBy status at before after → (IsRisen before after → ⊥) → OrWant (tells_no_ending (error_by status at)) claim
+unless_fault : (status : Status) (at : ℕ) (before after : ℕ) (left : Option (List ℕ)) (claim : Type 0) → CauseBy status at before after left → (IsRisen before after → ⊥) → OrWant (tells_no_ending (error_by status at)) claim
     → OrWant (wants_memory (error_by status at)) claim
-unless_fault ReadFault at before after claim cause unrisen due = absurd (unrisen cause.1)
-unless_fault NoMemory at before after claim cause unrisen due = tt
-unless_fault Refused at before after claim cause unrisen due = due
-unless_fault BadSession at before after claim cause unrisen due = due
-unless_fault Cut at before after claim cause unrisen due = due
-unless_fault TooMuch at before after claim cause unrisen due = due
-unless_fault Done at before after claim cause unrisen due = absurd cause
-unless_fault Usage at before after claim cause unrisen due = absurd cause
-unless_fault WriteFault at before after claim cause unrisen due = absurd cause
-unless_fault DoorFault at before after claim cause unrisen due = absurd cause
+unless_fault ReadFault at before after left claim cause unrisen due = absurd (unrisen cause.1)
+unless_fault NoMemory at before after left claim cause unrisen due = tt
+unless_fault Refused at before after left claim cause unrisen due = due
+unless_fault BadSession at before after left claim cause unrisen due = due
+unless_fault Cut at before after left claim cause unrisen due = due
+unless_fault TooMuch at before after left claim cause unrisen due = due
+unless_fault Done at before after left claim cause unrisen due = absurd cause
+unless_fault Usage at before after left claim cause unrisen due = absurd cause
+unless_fault WriteFault at before after left claim cause unrisen due = absurd cause
+unless_fault DoorFault at before after left claim cause unrisen due = absurd cause
 
-pub complete_error : (known : Option (List ℕ)) (error : OpeningError) (before after : ℕ) → HasCause error before after
+pub complete_error : (known : Option (List ℕ)) (error : OpeningError) (before after : ℕ) (left : Option (List ℕ)) → HasCause error before after left
     → IfSome known (λ stream. OrWant (tells_no_ending error) (opening_of stream ≡ Err error))
     → IfSome known (λ stream. (IsRisen before after → ⊥) → OrWant (wants_memory error) (opening_of stream ≡ Err error))
-complete_error None error before after cause due = tt
-complete_error (Some stream) error before after cause due = λ unrisen.
-    unless_fault error.status error.at before after (opening_of stream ≡ Err error) cause unrisen due
+complete_error None error before after left cause due = tt
+complete_error (Some stream) error before after left cause due = λ unrisen.
+    unless_fault error.status error.at before after left (opening_of stream ≡ Err error) cause unrisen due
 
 -- the cause of a stop
-cause_by : (status : Status) (at before after : ℕ) → PlacedBy status at → (status ≡ ReadFault → IsRisen before after) → CauseBy status at before after
-cause_by ReadFault at before after placed rose = (placed, rose refl)
-cause_by NoMemory at before after placed rose = placed
-cause_by Cut at before after placed rose = placed
-cause_by TooMuch at before after placed rose = placed
-cause_by BadSession at before after placed rose = tt
-cause_by Done at before after placed rose = absurd placed
-cause_by Refused at before after placed rose = absurd placed
-cause_by Usage at before after placed rose = absurd placed
-cause_by WriteFault at before after placed rose = absurd placed
-cause_by DoorFault at before after placed rose = absurd placed
+cause_by : (status : Status) (at before after : ℕ) (left : Option (List ℕ)) → PlacedBy status at → StatusTells status before after left → CauseBy status at before after left
+cause_by ReadFault at before after left placed tells = (placed, tells)
+cause_by NoMemory at before after left placed tells = (placed, tells)
+cause_by Cut at before after left placed tells = (placed, tells.0, tells.1)
+cause_by TooMuch at before after left placed tells = (placed, tells)
+cause_by BadSession at before after left placed tells = tells
+cause_by Done at before after left placed tells = absurd placed
+cause_by Refused at before after left placed tells = absurd placed
+cause_by Usage at before after left placed tells = absurd placed
+cause_by WriteFault at before after left placed tells = absurd placed
+cause_by DoorFault at before after left placed tells = absurd placed
 
-pub stop_cause : (stop : Stop) (error : OpeningError) (before after : ℕ) → error ≡ error_by stop.status stop.at → IsInputStop stop → (stop.status ≡ ReadFault → IsRisen before after)
-    → HasCause error before after
-stop_cause stop error before after is placed rose =
-    subst (λ (e : OpeningError). HasCause e before after) (sym is) (cause_by stop.status stop.at before after placed rose)
+pub stop_cause : (stop : Stop) (error : OpeningError) (before after : ℕ) (left : Option (List ℕ)) → error ≡ error_by stop.status stop.at → IsInputStop stop → StatusTells stop.status before after left
+    → HasCause error before after left
+stop_cause stop error before after left is placed tells =
+    subst (λ (e : OpeningError). HasCause e before after left) (sym is) (cause_by stop.status stop.at before after left placed tells)
 
 -- a stream that was read to its end gives the store that the session stands in
 pub opened_done : (known : Option (List ℕ)) (state : State) → IfSome known (λ stream. IsDoneIn (outcome stream) state) → IfSome known (λ stream. opening_of stream ≡ store_in state)

@@ -8,8 +8,9 @@ use Rattle.std.specs.Io.KnownBytes.{Appends}
 use Rattle.nm_base.specs.Written.{AppendsFront}
 use Rattle.nm_base.specs.declared.outcome.Status.{Status}
 use Rattle.nm_base.specs.declared.outcome.Status.TheVariants.{Done, Refused, Usage, ReadFault, WriteFault, NoMemory, BadSession, Cut, TooMuch, DoorFault}
-use Rattle.nm_session.specs.Answered.{Answers, due_of, AppendsPrefix, is_ending, AnswersStream, AnswersUnlessFaults, HasCause}
-use Rattle.nm_session.specs.Turns.{AnswersTurn, NoAnswerBy, AnswerStops, EndsBy, EndsWith, NamesBadLine, NoTurnBy, TakesTurn, TurnStops}
+use Rattle.nm_base.specs.Faults.{IsRisen}
+use Rattle.nm_session.specs.Answered.{Answers, due_of, AppendsPrefix, is_ending, AnswersStream, AnswersUnlessFaults, HasCause, NoneFailed}
+use Rattle.nm_session.specs.Turns.{AnswersTurn, NoAnswerBy, AnswerStops, EndsBy, EndsWith, NamesBadLine, NoTurnBy, StopsAs, TakesTurn, TurnStops}
 use Rattle.nm_session.specs.Buffered.{Buffered}
 use Rattle.nm_session.specs.Input.{coming, in_session}
 use Rattle.nm_session.specs.Limits.{longest_session}
@@ -18,8 +19,8 @@ use Rattle.nm_session.specs.Reply.{numbered}
 use Rattle.nm_session.specs.Stream.{Next, next_in, Outcome, behind_reply, behind_command, offset_behind, bad_line, short, outcome_of, outcome_within, short_ending, outcome}
 use Rattle.nm_session.specs.Turn.{Turn, turn_of}
 use Rattle.nm_session.proofs.Answered.{answers_part, answers_whole}
-use Rattle.nm_session.specs.declared.turn.State.{State}
-use Rattle.nm_session.specs.declared.turn.State.TheVariants.{Empty}
+use Rattle.nm_session.specs.declared.state.State.{State}
+use Rattle.nm_session.specs.declared.state.State.TheVariants.{Empty}
 use Rattle.nm_session.specs.Stops.{stop_by}
 use Rattle.nm_session.specs.Word.{is_end}
 use Rattle.nm_session.specs.declared.stop.Stop.{Stop}
@@ -233,12 +234,12 @@ ends_bad : (stream : List ℕ) (status : Status) (written mid between now : Opti
     → Appends written mid replies → between ≡ mid → NamesBadLine status at between now before after → AnswersStream stream status written now
 ends_bad stream BadSession written mid between now replies state at before after e appended same named =
     whole_answer stream BadSession written now (behind_reply replies (bad_line state at)) e refl
-    (Appends-trans written mid now replies (numbered (codes "badline") at) appended (subst (λ o. Appends o now (numbered (codes "badline") at)) same named))
+    (Appends-trans written mid now replies (numbered (codes "badline") at) appended (subst (λ o. Appends o now (numbered (codes "badline") at)) same named.0))
 ends_bad stream WriteFault written mid between now replies state at before after e appended same named =
     part_answer stream WriteFault written mid now replies (bad_line state at) e appended
     (subst (λ o. AppendsPrefix o now (numbered (codes "badline") at)) same (named.0.0, named.0.2)) refl
 ends_bad stream NoMemory written mid between now replies state at before after e appended same named =
-    part_answer stream NoMemory written mid now replies (bad_line state at) e appended (nothing_more mid now (numbered (codes "badline") at) (named ∙ same)) refl
+    part_answer stream NoMemory written mid now replies (bad_line state at) e appended (nothing_more mid now (numbered (codes "badline") at) (named.0 ∙ same)) refl
 ends_bad stream Done written mid between now replies state at before after e appended same named = absurd named
 ends_bad stream Refused written mid between now replies state at before after e appended same named = absurd named
 ends_bad stream Usage written mid between now replies state at before after e appended same named = absurd named
@@ -248,16 +249,16 @@ ends_bad stream TooMuch written mid between now replies state at before after e 
 ends_bad stream DoorFault written mid between now replies state at before after e appended same named = absurd named
 
 -- after less than a whole command
-ends_short : (stream : List ℕ) (stopped status : Status) (written mid between now : Option (List ℕ)) (replies : List ℕ) (state : State) → outcome stream ≡ behind_reply replies (short stopped state)
-    → Appends written mid replies → between ≡ mid → (status ≡ stopped) × (now ≡ between) → AnswersStream stream status written now
-ends_short stream stopped status written mid between now replies state e appended same as_stopped =
+ends_short : (stream : List ℕ) (stopped status : Status) (written mid between now : Option (List ℕ)) (replies : List ℕ) (state : State) (before after : ℕ) → outcome stream ≡ behind_reply replies (short stopped state)
+    → Appends written mid replies → between ≡ mid → StopsAs stopped status between now before after → AnswersStream stream status written now
+ends_short stream stopped status written mid between now replies state before after e appended same as_stopped =
     whole_answer stream status written now (behind_reply replies (short stopped state)) e as_stopped.0
     (Appends-trans written mid now replies [] appended (subst (λ o. Appends mid o []) (sym (as_stopped.1 ∙ same)) (Appends-nil mid)))
 
 -- after a stop that tells of no ending, with nothing more written
-ends_early : (stream : List ℕ) (stopped status : Status) (written mid between now : Option (List ℕ)) (replies : List ℕ) (others : Outcome) → outcome stream ≡ behind_reply replies others
-    → is_ending stopped ≡ false → Appends written mid replies → AppendsPrefix mid between others.replies → (status ≡ stopped) × (now ≡ between) → AnswersStream stream status written now
-ends_early stream stopped status written mid between now replies others e no_ending appended more as_stopped =
+ends_early : (stream : List ℕ) (stopped status : Status) (written mid between now : Option (List ℕ)) (replies : List ℕ) (others : Outcome) (before after : ℕ) → outcome stream ≡ behind_reply replies others
+    → is_ending stopped ≡ false → Appends written mid replies → AppendsPrefix mid between others.replies → StopsAs stopped status between now before after → AnswersStream stream status written now
+ends_early stream stopped status written mid between now replies others before after e no_ending appended more as_stopped =
     part_answer stream status written mid now replies others e appended (subst (λ o. AppendsPrefix mid o others.replies) (sym as_stopped.1) more) (ap is_ending as_stopped.0 ∙ no_ending)
 
 -- the outcome, where a line is no command
@@ -293,25 +294,25 @@ ends_at stream buffered left state BadSession at status written mid between now 
     ends_bad stream status written mid between now so_far.replies state at before after
     (bad_outcome stream buffered left state so_far.replies at so_far.stands why.0) so_far.appended why.1 ends
 ends_at stream buffered left state Cut at status written mid between now before after so_far why ends =
-    ends_short stream Cut status written mid between now so_far.replies state
+    ends_short stream Cut status written mid between now so_far.replies state before after
     (cut_outcome stream buffered left state so_far.replies at so_far.stands why.0) so_far.appended why.1 ends
 ends_at stream buffered left state TooMuch at status written mid between now before after so_far why ends =
-    ends_short stream TooMuch status written mid between now so_far.replies state
+    ends_short stream TooMuch status written mid between now so_far.replies state before after
     (full_outcome stream buffered left state so_far.replies at so_far.stands why.0) so_far.appended why.1 ends
 ends_at stream buffered left state WriteFault at status written mid between now before after so_far why ends =
     let stands = so_far.stands in
     let turn = turn_of state why.word why.body in
     let others = outcome_within stands.turns (short_ending stream) turn.state (offset_behind buffered.given (in_session buffered stands.bytes) why.rest) why.rest in
     let few : why.front.0 ≤ length turn.reply = omega (arith, why.front.1) in
-    ends_early stream WriteFault status written mid between now so_far.replies (behind_command why.word turn others)
+    ends_early stream WriteFault status written mid between now so_far.replies (behind_command why.word turn others) before after
     (stands.whole ∙ ap (behind_reply so_far.replies) (unfolded stands.turns (short_ending stream) state buffered.given (in_session buffered stands.bytes) _ why.next))
     refl so_far.appended
     (why.front.0, subst (Appends mid between) (sym (front_of_reply why.word turn others why.front.0 few)) why.front.2)
     ends
 ends_at stream buffered left state ReadFault at status written mid between now before after so_far why ends =
-    ends_early stream ReadFault status written mid between now so_far.replies _ so_far.stands.whole refl so_far.appended (nothing_more mid between _ why) ends
+    ends_early stream ReadFault status written mid between now so_far.replies _ before after so_far.stands.whole refl so_far.appended (nothing_more mid between _ why) ends
 ends_at stream buffered left state NoMemory at status written mid between now before after so_far why ends =
-    ends_early stream NoMemory status written mid between now so_far.replies _ so_far.stands.whole refl so_far.appended (nothing_more mid between _ why) ends
+    ends_early stream NoMemory status written mid between now so_far.replies _ before after so_far.stands.whole refl so_far.appended (nothing_more mid between _ why) ends
 ends_at stream buffered left state Done at status written mid between now before after so_far why ends = absurd why
 ends_at stream buffered left state Refused at status written mid between now before after so_far why ends = absurd why
 ends_at stream buffered left state Usage at status written mid between now before after so_far why ends = absurd why
@@ -326,65 +327,63 @@ ends_stopped stream buffered left state stopped status written mid between now b
 
 -- ---- causes
 
-cause_from : (status : Status) (read_first read_before read_after write_first write_before write_between write_after : ℕ) → HasCause status read_before read_after write_before write_between
-    → read_first ≤ read_before → write_first ≤ write_before → write_between ≤ write_after → HasCause status read_first read_after write_first write_after
-cause_from ReadFault a b c d e f g h r w k = omega arith
-cause_from WriteFault a b c d e f g h r w k = omega arith
-cause_from Done a b c d e f g h r w k = tt
-cause_from NoMemory a b c d e f g h r w k = tt
-cause_from BadSession a b c d e f g h r w k = tt
-cause_from Cut a b c d e f g h r w k = tt
-cause_from TooMuch a b c d e f g h r w k = tt
-cause_from Refused a b c d e f g h r w k = absurd h
-cause_from Usage a b c d e f g h r w k = absurd h
-cause_from DoorFault a b c d e f g h r w k = absurd h
+-- the counts before a turn are those at the beginning
+cause_from : (status : Status) (read_first read_before read_after write_first write_before write_after : ℕ) (left : Option (List ℕ)) → HasCause status read_before read_after write_before write_after left
+    → read_before ≡ read_first → write_before ≡ write_first → HasCause status read_first read_after write_first write_after left
+cause_from status a b c d e f left h r w = subst (λ n. HasCause status n c d f left) r (subst (λ n. HasCause status b c n f left) w h)
 
-bad_line_cause : (status : Status) (at : ℕ) (written now : Option (List ℕ)) (read_before read_after write_first write_before write_after : ℕ) → write_first ≤ write_before
-    → NamesBadLine status at written now write_before write_after → HasCause status read_before read_after write_first write_after
-bad_line_cause BadSession at written now a b c d e k named = tt
-bad_line_cause WriteFault at written now a b c d e k named = omega (arith, named.1)
-bad_line_cause NoMemory at written now a b c d e k named = tt
-bad_line_cause Done at written now a b c d e k named = absurd named
-bad_line_cause Refused at written now a b c d e k named = absurd named
-bad_line_cause Usage at written now a b c d e k named = absurd named
-bad_line_cause ReadFault at written now a b c d e k named = absurd named
-bad_line_cause Cut at written now a b c d e k named = absurd named
-bad_line_cause TooMuch at written now a b c d e k named = absurd named
-bad_line_cause DoorFault at written now a b c d e k named = absurd named
+bad_line_cause : (status : Status) (at : ℕ) (written now : Option (List ℕ)) (read_before read_after write_before write_between write_after : ℕ) (left : Option (List ℕ))
+    → NoneFailed read_before read_after write_before write_between → NamesBadLine status at written now write_between write_after → HasCause status read_before read_after write_before write_after left
+bad_line_cause BadSession at written now a b c d e left none named = (none.0, named.1 ∙ none.1)
+bad_line_cause WriteFault at written now a b c d e left none named = (none.0, subst (λ n. IsRisen n e) none.1 named.1)
+bad_line_cause NoMemory at written now a b c d e left none named = (none.0, named.1 ∙ none.1)
+bad_line_cause Done at written now a b c d e left none named = absurd named
+bad_line_cause Refused at written now a b c d e left none named = absurd named
+bad_line_cause Usage at written now a b c d e left none named = absurd named
+bad_line_cause ReadFault at written now a b c d e left none named = absurd named
+bad_line_cause Cut at written now a b c d e left none named = absurd named
+bad_line_cause TooMuch at written now a b c d e left none named = absurd named
+bad_line_cause DoorFault at written now a b c d e left none named = absurd named
+
+same_cause : (ending status : Status) (written now : Option (List ℕ)) (read_before read_after write_before write_between write_after : ℕ) (left : Option (List ℕ))
+    → HasCause ending read_before read_after write_before write_between left → StopsAs ending status written now write_between write_after → HasCause status read_before read_after write_before write_after left
+same_cause ending status written now a b c d e left h ends =
+    subst (λ s. HasCause s a b c e left) (sym ends.0) (subst (λ n. HasCause ending a b c n left) (sym ends.2) h)
 
 -- the cause of the stop is that of the status
-cause_ended : (stopped : Status) (at : ℕ) (status : Status) (written now : Option (List ℕ)) (read_first read_before read_after write_first write_before write_between write_after : ℕ)
-    → HasCause stopped read_before read_after write_before write_between → read_first ≤ read_before → write_first ≤ write_before → write_before ≤ write_between → write_between ≤ write_after
-    → EndsBy stopped at status written now write_between write_after → HasCause status read_first read_after write_first write_after
-cause_ended BadSession at status written now a b c d e f g h r w u k ends = bad_line_cause status at written now a c d f g (omega arith) ends
-cause_ended ReadFault at status written now a b c d e f g h r w u k ends = subst (λ s. HasCause s a c d g) (sym ends.0) (cause_from ReadFault a b c d e f g h r w k)
-cause_ended WriteFault at status written now a b c d e f g h r w u k ends = subst (λ s. HasCause s a c d g) (sym ends.0) (cause_from WriteFault a b c d e f g h r w k)
-cause_ended Done at status written now a b c d e f g h r w u k ends = subst (λ s. HasCause s a c d g) (sym ends.0) tt
-cause_ended NoMemory at status written now a b c d e f g h r w u k ends = subst (λ s. HasCause s a c d g) (sym ends.0) tt
-cause_ended Cut at status written now a b c d e f g h r w u k ends = subst (λ s. HasCause s a c d g) (sym ends.0) tt
-cause_ended TooMuch at status written now a b c d e f g h r w u k ends = subst (λ s. HasCause s a c d g) (sym ends.0) tt
-cause_ended Refused at status written now a b c d e f g h r w u k ends = absurd h
-cause_ended Usage at status written now a b c d e f g h r w u k ends = absurd h
-cause_ended DoorFault at status written now a b c d e f g h r w u k ends = absurd h
+cause_ended : (stopped : Status) (at : ℕ) (status : Status) (written now : Option (List ℕ)) (read_before read_after write_before write_between write_after : ℕ) (left : Option (List ℕ))
+    → HasCause stopped read_before read_after write_before write_between left → EndsBy stopped at status written now write_between write_after → HasCause status read_before read_after write_before write_after left
+cause_ended BadSession at status written now a b c d e left h ends = bad_line_cause status at written now a b c d e left h ends
+cause_ended ReadFault at status written now a b c d e left h ends = same_cause ReadFault status written now a b c d e left h ends
+cause_ended WriteFault at status written now a b c d e left h ends = same_cause WriteFault status written now a b c d e left h ends
+cause_ended Done at status written now a b c d e left h ends = same_cause Done status written now a b c d e left h ends
+cause_ended NoMemory at status written now a b c d e left h ends = same_cause NoMemory status written now a b c d e left h ends
+cause_ended Cut at status written now a b c d e left h ends = same_cause Cut status written now a b c d e left h ends
+cause_ended TooMuch at status written now a b c d e left h ends = same_cause TooMuch status written now a b c d e left h ends
+cause_ended Refused at status written now a b c d e left h ends = absurd h
+cause_ended Usage at status written now a b c d e left h ends = absurd h
+cause_ended DoorFault at status written now a b c d e left h ends = absurd h
 
-pub ended_cause : (stopped : Stop) (status : Status) (written now : Option (List ℕ)) (read_first read_before read_after write_first write_before write_between write_after : ℕ)
-    → HasCause stopped.status read_before read_after write_before write_between → read_first ≤ read_before → write_first ≤ write_before → write_before ≤ write_between → write_between ≤ write_after
-    → EndsWith stopped status written now write_between write_after → HasCause status read_first read_after write_first write_after
-ended_cause stopped = cause_ended stopped.status stopped.at
+pub ended_cause : (stopped : Stop) (status : Status) (written now : Option (List ℕ)) (read_first read_before read_after write_first write_before write_between write_after : ℕ) (left : Option (List ℕ))
+    → HasCause stopped.status read_before read_after write_before write_between left → read_before ≡ read_first → write_before ≡ write_first
+    → EndsWith stopped status written now write_between write_after → HasCause status read_first read_after write_first write_after left
+ended_cause stopped status written now a b c d e f g left h r w ends =
+    cause_ended stopped.status stopped.at status written now a c d f g left (cause_from stopped.status a b c d e f left h r w) ends
 
 -- without a fault that is told, the status is an ending or want of memory
-pub is_complete : (stream : List ℕ) (status : Status) (written now : Option (List ℕ)) (read_before read_after write_before write_after : ℕ) → HasCause status read_before read_after write_before write_after
+pub is_complete : (stream : List ℕ) (status : Status) (written now : Option (List ℕ)) (read_before read_after write_before write_after : ℕ) (left : Option (List ℕ))
+    → HasCause status read_before read_after write_before write_after left
     → AnswersStream stream status written now → AnswersUnlessFaults stream status written now read_before read_after write_before write_after
-is_complete stream ReadFault written now a b c d h answers no_read no_write = absurd (no_read h)
-is_complete stream WriteFault written now a b c d h answers no_read no_write = absurd (no_write h)
-is_complete stream Done written now a b c d h answers no_read no_write = inl (answers.whole refl)
-is_complete stream BadSession written now a b c d h answers no_read no_write = inl (answers.whole refl)
-is_complete stream Cut written now a b c d h answers no_read no_write = inl (answers.whole refl)
-is_complete stream TooMuch written now a b c d h answers no_read no_write = inl (answers.whole refl)
-is_complete stream NoMemory written now a b c d h answers no_read no_write = inr refl
-is_complete stream Refused written now a b c d h answers no_read no_write = absurd h
-is_complete stream Usage written now a b c d h answers no_read no_write = absurd h
-is_complete stream DoorFault written now a b c d h answers no_read no_write = absurd h
+is_complete stream ReadFault written now a b c d left h answers no_read no_write = absurd (no_read h.0)
+is_complete stream WriteFault written now a b c d left h answers no_read no_write = absurd (no_write h.1)
+is_complete stream Done written now a b c d left h answers no_read no_write = inl (answers.whole refl)
+is_complete stream BadSession written now a b c d left h answers no_read no_write = inl (answers.whole refl)
+is_complete stream Cut written now a b c d left h answers no_read no_write = inl (answers.whole refl)
+is_complete stream TooMuch written now a b c d left h answers no_read no_write = inl (answers.whole refl)
+is_complete stream NoMemory written now a b c d left h answers no_read no_write = inr refl
+is_complete stream Refused written now a b c d left h answers no_read no_write = absurd h
+is_complete stream Usage written now a b c d left h answers no_read no_write = absurd h
+is_complete stream DoorFault written now a b c d left h answers no_read no_write = absurd h
 
 -- ---- a reply, and how it was written
 

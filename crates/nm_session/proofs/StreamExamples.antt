@@ -1,15 +1,16 @@
 -- Short streams, with their replies and endings.
-use Rattle.std.proofs.Common.{◌≡◌, ℕ, List, [], ◌∷◌, ◌++◌, codes, Some, refl, lit<, lit≤}
+use Rattle.std.proofs.Common.{◌≡◌, ℕ, List, [], ◌∷◌, ◌++◌, codes, None, Some, Ok, Err, refl, lit<, lit≤}
 use Rattle.std.specs.Prelude.{replicate}
-use Rattle.nm_base.specs.declared.outcome.Status.TheVariants.{Done, ReadFault, Cut}
+use Rattle.nm_base.specs.declared.outcome.Status.TheVariants.{Done, Refused, ReadFault, BadSession, Cut}
 use Rattle.nm_day.specs.Day.{is_day}
 use Rattle.nm_version.specs.Kept.{Kept}
 use Rattle.nm_session.specs.Answered.{AppendsPrefix, HasCause}
 use Rattle.nm_session.specs.Input.{GivesLine}
+use Rattle.nm_session.specs.Opening.{error_by, opened_from, opening_of}
 use Rattle.nm_session.specs.Reply.{numbered}
 use Rattle.nm_session.specs.Stream.{Command, next_in, outcome, outcome_within, bad_line, short}
 use Rattle.nm_session.specs.Word.{length_of, dated_line, object_line, project_line, word_of}
-use Rattle.nm_session.specs.declared.turn.State.TheVariants.{Empty, Store}
+use Rattle.nm_session.specs.declared.state.State.TheVariants.{Empty, Store}
 use Rattle.nm_session.specs.PlainWord.{Base, Assemble, End}
 
 -- ---- how a stream is cut: a base, the model of a day, and the end
@@ -75,9 +76,32 @@ too_long_for_line = refl
 one_of_two : AppendsPrefix (Some (1 ∷ [])) (Some (1 ∷ 2 ∷ [])) (2 ∷ 3 ∷ [])
 one_of_two = (1, refl)
 
--- a fault is told where its count rose
-told : HasCause ReadFault 4 5 0 0
-told = lit≤ tt
+-- a fault is told where its count rose, and the other stayed
+told : HasCause ReadFault 4 5 0 0 None
+told = (lit≤ tt, refl)
+
+-- what is cut was taken whole
+taken_whole : HasCause Cut 4 4 0 0 (Some [])
+taken_whole = ((refl, refl), refl)
+
+-- ---- what a stream opens
+
+no_base_accepted : opening_of (codes "end" ++ 10 ∷ []) ≡ Err (error_by Refused 0)
+unfolding outcome_within word_of
+no_base_accepted = refl
+
+no_command : opening_of (codes "summary 2024-01-01" ++ 10 ∷ []) ≡ Err (error_by BadSession 0)
+unfolding outcome_within word_of dated_line is_day
+no_command = refl
+
+cut_short : opening_of (codes "base 3" ++ 10 ∷ codes "ab") ≡ Err (error_by Cut 0)
+unfolding outcome_within word_of length_of
+cut_short = refl
+
+-- a session that stands in a store where `end` comes opens it
+read_to_its_end : (kept : Kept) → opened_from (outcome_within 1 Cut (Store kept) 71 (codes "end" ++ 10 ∷ [])) ≡ Ok kept
+unfolding outcome_within word_of
+read_to_its_end kept = refl
 
 -- the line `end` was given from what was read ahead, and from what the source had left
 line_given : GivesLine (record { ahead = codes "en"; given = 3 }) (record { ahead = codes "x"; given = 7 })

@@ -7,7 +7,7 @@ use Rattle.nm_version.specs.declared.refusal.Refusal.{Refusal}
 use Rattle.nm_version.specs.declared.refusal.Refusal.TheVariants as refusal
 use Rattle.nm_session.specs.Reply.{refused_reply}
 use Rattle.nm_session.specs.Turn.{Turn, committed}
-use Rattle.nm_session.specs.declared.turn.State.TheVariants.{Store}
+use Rattle.nm_session.specs.declared.state.State.TheVariants.{Store}
 
 due_refusal : {claim : Type 0} (given : Refusal) → given ≢ refusal.NoMemory → OrWant (wants_memory given) claim → claim
 due_refusal refusal.NoMemory said h = absurd (said refl)

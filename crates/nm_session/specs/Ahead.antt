@@ -1,5 +1,5 @@
 -- What is read ahead of a session: why no line or document is given of it.
-use Rattle.std.specs.Prelude.{◌≡◌, ℕ, ◌+◌, ◌<◌, ◌≤◌, List, length, Option, None, position, IfSome, Result, IfErr}
+use Rattle.std.specs.Prelude.{◌≡◌, ℕ, ◌+◌, ◌<◌, ◌≤◌, List, length, Option, None, position, IfSome, Result, IfErr, OnOk}
 use Rattle.std.specs.Io.KnownBytes.{Keeps, IsAtEnd}
 use Rattle.nm_base.specs.Faults.{IsRisen}
 use Rattle.nm_session.specs.Buffered.{Buffered}
@@ -59,7 +59,17 @@ BodyLacks ReadFault len buffered left = Unit {0}
 BodyLacks NoMemory len buffered left = Unit {0}
 BodyLacks LongLine len buffered left = ⊥
 
--- the count of a source's faults never falls, and a lack tells of a fault only where it rose
-pub record CountsLacks {T : Type 0} (before after : ℕ) (result : Result T Lack) : Type 0 where
+-- what a lack tells of the source: that its count of faults rose, and else that it stayed, and at a cut that
+-- nothing is left
+abbrev pub LackTells : Lack → ℕ → ℕ → Option (List ℕ) → Type 0
+LackTells ReadFault before after left = IsRisen before after
+LackTells Cut before after left = (after ≡ before) × IsAtEnd left
+LackTells NoMemory before after left = after ≡ before
+LackTells LongLine before after left = after ≡ before
+LackTells TooMuch before after left = after ≡ before
+
+-- the count of a source's faults never falls, and stays unless a lack tells of a fault
+pub record CountsLacks {T : Type 0} (before after : ℕ) (left : Option (List ℕ)) (result : Result T Lack) : Type 0 where
   pub kept : before ≤ after
-  pub rose : IfErr result (λ lack. lack ≡ ReadFault → IsRisen before after)
+  pub stays : OnOk result (after ≡ before)
+  pub tells : IfErr result (λ lack. LackTells lack before after left)

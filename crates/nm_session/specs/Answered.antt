@@ -1,6 +1,6 @@
 -- What was written by the end of a run, and what its status tells.
 use Rattle.std.specs.Prelude.{◌≡◌, ℕ, List, take, Bool, true, false, Option, IsTrue, ◌⊎◌}
-use Rattle.std.specs.Io.KnownBytes.{Appends}
+use Rattle.std.specs.Io.KnownBytes.{Appends, IsAtEnd}
 use Rattle.nm_base.specs.Faults.{IsRisen}
 use Rattle.nm_base.specs.declared.outcome.Status.{Status}
 use Rattle.nm_base.specs.declared.outcome.Status.TheVariants.{Done, Refused, Usage, ReadFault, WriteFault, NoMemory, BadSession, Cut, TooMuch, DoorFault}
@@ -47,19 +47,24 @@ pub record Answers (due : Due) (status : Status) (old new : Option (List ℕ)) :
 abbrev pub AnswersStream : List ℕ → Status → Option (List ℕ) → Option (List ℕ) → Type 0
 AnswersStream stream status old new = Answers (due_of (outcome stream)) status old new
 
--- a fault is told only where the count of the source's faults, or of the sink's, rose; a session tells of no
--- refusal, of no word of a command line, and of no listener
-abbrev pub HasCause : Status → ℕ → ℕ → ℕ → ℕ → Type 0
-HasCause ReadFault read_before read_after write_before write_after = IsRisen read_before read_after
-HasCause WriteFault read_before read_after write_before write_after = IsRisen write_before write_after
-HasCause Refused read_before read_after write_before write_after = ⊥
-HasCause Usage read_before read_after write_before write_after = ⊥
-HasCause DoorFault read_before read_after write_before write_after = ⊥
-HasCause Done read_before read_after write_before write_after = Unit {0}
-HasCause NoMemory read_before read_after write_before write_after = Unit {0}
-HasCause BadSession read_before read_after write_before write_after = Unit {0}
-HasCause Cut read_before read_after write_before write_after = Unit {0}
-HasCause TooMuch read_before read_after write_before write_after = Unit {0}
+-- no call failed: the counts of the source's faults and of the sink's stayed
+abbrev pub NoneFailed : ℕ → ℕ → ℕ → ℕ → Type 0
+NoneFailed read_before read_after write_before write_after = (read_after ≡ read_before) × (write_after ≡ write_before)
+
+-- a fault of the source or of the sink is told where its count rose, and there alone; a session that is cut has taken
+-- all that the source had, of which `left` is left. A session tells of no refusal, of no word of a command line, and of
+-- no listener
+abbrev pub HasCause : Status → ℕ → ℕ → ℕ → ℕ → Option (List ℕ) → Type 0
+HasCause ReadFault read_before read_after write_before write_after left = IsRisen read_before read_after × (write_after ≡ write_before)
+HasCause WriteFault read_before read_after write_before write_after left = (read_after ≡ read_before) × IsRisen write_before write_after
+HasCause Cut read_before read_after write_before write_after left = NoneFailed read_before read_after write_before write_after × IsAtEnd left
+HasCause Done read_before read_after write_before write_after left = NoneFailed read_before read_after write_before write_after
+HasCause NoMemory read_before read_after write_before write_after left = NoneFailed read_before read_after write_before write_after
+HasCause BadSession read_before read_after write_before write_after left = NoneFailed read_before read_after write_before write_after
+HasCause TooMuch read_before read_after write_before write_after left = NoneFailed read_before read_after write_before write_after
+HasCause Refused read_before read_after write_before write_after left = ⊥
+HasCause Usage read_before read_after write_before write_after left = ⊥
+HasCause DoorFault read_before read_after write_before write_after left = ⊥
 
 -- where no count rose, all that is due was written, or memory was wanting
 abbrev pub EndsUnlessFaults : Due → Status → Option (List ℕ) → Option (List ℕ) → ℕ → ℕ → ℕ → ℕ → Type 0

@@ -19,7 +19,7 @@ use Rattle.nm_session.specs.Laws.{replies_behind}
 use Rattle.nm_session.specs.Reply.{document_reply, log_reply, numbered, refused_document_reply, refused_reply, summary_reply}
 use Rattle.nm_session.specs.Turn.{allows, committed, stays, turn_of, with_base, with_body}
 use Rattle.nm_session.specs.Word.{dated_line, day_before_space, length_of, object_line, project_line, word_of}
-use Rattle.nm_session.specs.declared.turn.State.TheVariants.{Empty, Store}
+use Rattle.nm_session.specs.declared.state.State.TheVariants.{Empty, Store}
 use Rattle.nm_session.specs.PlainWord.{Base, File, Assemble, Projects, Log, Summary, End}
 
 -- ---- lengths and lines

@@ -1,6 +1,6 @@
 -- The lines and documents of a stream, over the bytes that still come.
-use Rattle.std.specs.Prelude.{◌≡◌, ℕ, ◌+◌, ◌-◌, ◌<◌, ◌≤◌, List, [], ◌∷◌, ◌++◌, length, take, Option, None, Some, position, IfSome, Result, Ok, Err, IfErr}
-use Rattle.std.specs.Io.KnownBytes.{prepend_known, Consumes}
+use Rattle.std.specs.Prelude.{◌≡◌, ℕ, ◌+◌, ◌-◌, ◌<◌, ◌≤◌, List, [], ◌∷◌, ◌++◌, length, take, Option, None, Some, position, IfSome, Result, Ok, Err, IfErr, OnOk}
+use Rattle.std.specs.Io.KnownBytes.{prepend_known, Consumes, IsAtEnd}
 use Rattle.nm_base.specs.Faults.{IsRisen}
 use Rattle.nm_base.specs.declared.outcome.Status.{Status}
 use Rattle.nm_base.specs.declared.outcome.Status.TheVariants.{Done, Refused, Usage, ReadFault, WriteFault, NoMemory, BadSession, Cut, TooMuch, DoorFault}
@@ -125,7 +125,22 @@ pub record StopsAgain {T : Type 0} (earlier : Stop) (result : Result T Stop) (ol
   pub unread : after ≡ before
   pub faults : reads_after ≡ reads_before
 
--- the count of a source's faults never falls, and a stop tells of a fault only where it rose, or it is an earlier one
-pub record CountsReads {T : Type 0} (stopped : Option Stop) (before after : ℕ) (result : Result T Stop) : Type 0 where
+-- what a stop of an input tells of the source: that its count of faults rose, and else that it stayed, and at a cut
+-- that nothing is left
+abbrev pub StatusTells : Status → ℕ → ℕ → Option (List ℕ) → Type 0
+StatusTells ReadFault before after left = IsRisen before after
+StatusTells Cut before after left = (after ≡ before) × IsAtEnd left
+StatusTells NoMemory before after left = after ≡ before
+StatusTells BadSession before after left = after ≡ before
+StatusTells TooMuch before after left = after ≡ before
+StatusTells Done before after left = ⊥
+StatusTells Refused before after left = ⊥
+StatusTells Usage before after left = ⊥
+StatusTells WriteFault before after left = ⊥
+StatusTells DoorFault before after left = ⊥
+
+-- the count of a source's faults never falls, and stays unless a stop tells of a fault, or it is an earlier one
+pub record CountsReads {T : Type 0} (stopped : Option Stop) (before after : ℕ) (left : Option (List ℕ)) (result : Result T Stop) : Type 0 where
   pub kept : before ≤ after
-  pub rose : stopped ≡ None → IfErr result (λ stop. stop.status ≡ ReadFault → IsRisen before after)
+  pub stays : OnOk result (after ≡ before)
+  pub tells : stopped ≡ None → IfErr result (λ stop. StatusTells stop.status before after left)

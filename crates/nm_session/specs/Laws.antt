@@ -8,7 +8,7 @@ use Rattle.nm_version.specs.declared.command.Entry.{Entry}
 use Rattle.nm_session.specs.Opening.{opening_of}
 use Rattle.nm_session.specs.Reply.{numbered}
 use Rattle.nm_session.specs.Stream.{Outcome, outcome}
-use Rattle.nm_session.specs.declared.turn.State.TheVariants.{Store}
+use Rattle.nm_session.specs.declared.state.State.TheVariants.{Store}
 
 -- the replies where each command behind this number is accepted, and then `end` comes
 abbrev pub replies_behind : ℕ → List Entry → List ℕ

@@ -1,3 +1,4 @@
+-- What the contracts of public calls say: lines, replies, and what comes of one command ..
 pub mod Limits
 pub mod Digits
 pub mod PlainWord
@@ -5,14 +6,18 @@ pub mod Word
 pub mod Reply
 pub mod Body
 pub mod Turn
-pub mod Examples
+-- .. of a whole stream, and of a store that is opened from one ..
 pub mod Stream
-pub mod Stops
-pub mod Buffered
-pub mod Received
-pub mod Input
-pub mod Ahead
-pub mod Turns
 pub mod Answered
 pub mod Opening
 pub mod Laws
+-- .. and what an input gives of a stream
+pub mod Buffered
+pub mod Received
+pub mod Input
+-- Examples, computed
+pub mod Examples
+-- What the proofs of the code say of what stands below these calls
+pub mod Stops
+pub mod Ahead
+pub mod Turns

@@ -1,5 +1,6 @@
 -- What comes of a stream from which a store is opened.
-use Rattle.std.specs.Prelude.{◌≡◌, ℕ, List, Bool, true, false, not, Result, Ok, Err, IsTrue}
+use Rattle.std.specs.Prelude.{◌≡◌, ℕ, List, Bool, true, false, not, Option, Result, Ok, Err, IsTrue}
+use Rattle.std.specs.Io.KnownBytes.{IsAtEnd}
 use Rattle.nm_base.specs.Faults.{IsRisen}
 use Rattle.nm_base.specs.declared.outcome.Status.{Status}
 use Rattle.nm_base.specs.declared.outcome.Status.TheVariants.{Done, Refused, Usage, ReadFault, WriteFault, NoMemory, BadSession, Cut, TooMuch, DoorFault}
@@ -8,8 +9,8 @@ use Rattle.nm_session.specs.Answered.{is_ending}
 use Rattle.nm_session.specs.Stream.{Outcome, outcome}
 use Rattle.nm_session.specs.declared.start.OpeningError.{OpeningError}
 use Rattle.nm_session.specs.declared.stop.Stop.{Stop}
-use Rattle.nm_session.specs.declared.turn.State.{State}
-use Rattle.nm_session.specs.declared.turn.State.TheVariants.{Empty, Store}
+use Rattle.nm_session.specs.declared.state.State.{State}
+use Rattle.nm_session.specs.declared.state.State.TheVariants.{Empty, Store}
 
 abbrev pub error_by : Status → ℕ → OpeningError
 error_by status at = record { status = status; at = at }
@@ -64,22 +65,23 @@ is_no_memory DoorFault = false
 abbrev pub wants_memory : OpeningError → Bool
 wants_memory error = is_no_memory error.status
 
--- a fault is told only where the count of the source's faults rose. A place is that of a bad line, and 0 with any
--- other status; an opening tells nothing of a sink, of a command line or of a listener
-abbrev pub CauseBy : Status → ℕ → ℕ → ℕ → Type 0
-CauseBy ReadFault at before after = (at ≡ 0) × IsRisen before after
-CauseBy Refused at before after = at ≡ 0
-CauseBy NoMemory at before after = at ≡ 0
-CauseBy Cut at before after = at ≡ 0
-CauseBy TooMuch at before after = at ≡ 0
-CauseBy BadSession at before after = Unit {0}
-CauseBy Done at before after = ⊥
-CauseBy Usage at before after = ⊥
-CauseBy WriteFault at before after = ⊥
-CauseBy DoorFault at before after = ⊥
+-- a fault is told where the count of the source's faults rose, and there alone; a stream that is cut was taken whole.
+-- A place is that of a bad line, and 0 with any other status; an opening tells nothing of a sink, of a command line or
+-- of a listener
+abbrev pub CauseBy : Status → ℕ → ℕ → ℕ → Option (List ℕ) → Type 0
+CauseBy ReadFault at before after left = (at ≡ 0) × IsRisen before after
+CauseBy Cut at before after left = (at ≡ 0) × (after ≡ before) × IsAtEnd left
+CauseBy Refused at before after left = (at ≡ 0) × (after ≡ before)
+CauseBy NoMemory at before after left = (at ≡ 0) × (after ≡ before)
+CauseBy TooMuch at before after left = (at ≡ 0) × (after ≡ before)
+CauseBy BadSession at before after left = after ≡ before
+CauseBy Done at before after left = ⊥
+CauseBy Usage at before after left = ⊥
+CauseBy WriteFault at before after left = ⊥
+CauseBy DoorFault at before after left = ⊥
 
-abbrev pub HasCause : OpeningError → ℕ → ℕ → Type 0
-HasCause error before after = CauseBy error.status error.at before after
+abbrev pub HasCause : OpeningError → ℕ → ℕ → Option (List ℕ) → Type 0
+HasCause error before after left = CauseBy error.status error.at before after left
 
 -- the stream was read to its end, and this is what the session stands in then
 pub record IsDoneIn (due : Outcome) (state : State) : Type 0 where

@@ -6,8 +6,8 @@ use Rattle.nm_session.specs.Limits.{longest_line, longest_session}
 use Rattle.nm_session.specs.Reply.{numbered}
 use Rattle.nm_session.specs.Turn.{allows, Turn, turn_of}
 use Rattle.nm_session.specs.Word.{word_of, body_length}
-use Rattle.nm_session.specs.declared.turn.State.{State}
-use Rattle.nm_session.specs.declared.turn.State.TheVariants.{Empty}
+use Rattle.nm_session.specs.declared.state.State.{State}
+use Rattle.nm_session.specs.declared.state.State.TheVariants.{Empty}
 use Rattle.nm_session.specs.PlainWord.{PlainWord, Base, File, Revise, Redate, Withdraw, Assemble, Object, Timeline, Projects, Log, Summary, End}
 
 -- what stands next in a stream: a whole command with its body and what comes behind it, a line that is
@@ -18,15 +18,15 @@ pub data Next : Type 0 where
   Short : Next
 
 -- the body that the command asks for
-abbrev pub with_body : PlainWord → List ℕ → Next
-with_body word bytes =
+abbrev pub command_with_body : PlainWord → List ℕ → Next
+command_with_body word bytes =
     if nat_le (body_length word) (length bytes)
     then Command word (take (body_length word) bytes) (drop (body_length word) bytes)
     else Short
 
 abbrev pub by_word : State → Option PlainWord → List ℕ → Next
 by_word state None bytes = BadLine
-by_word state (Some word) bytes = if allows state word then with_body word bytes else BadLine
+by_word state (Some word) bytes = if allows state word then command_with_body word bytes else BadLine
 
 -- a line ends at this place, or at none where its line feed may stand
 abbrev pub by_line : State → Option ℕ → List ℕ → Next

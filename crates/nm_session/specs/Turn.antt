@@ -20,8 +20,8 @@ use Rattle.nm_session.specs.Body.{body_of}
 use Rattle.nm_session.specs.Reply.{numbered, document_reply, lines_reply, log_reply, projects_reply, statements_reply, summary_reply, refused_document_reply, refused_reply}
 use Rattle.nm_session.specs.declared.body.Body.{Body}
 use Rattle.nm_session.specs.declared.body.Body.TheVariants as body
-use Rattle.nm_session.specs.declared.turn.State.{State}
-use Rattle.nm_session.specs.declared.turn.State.TheVariants.{Empty, Store}
+use Rattle.nm_session.specs.declared.state.State.{State}
+use Rattle.nm_session.specs.declared.state.State.TheVariants.{Empty, Store}
 use Rattle.nm_session.specs.Word.{object_named}
 use Rattle.nm_session.specs.PlainWord.{PlainWord, Base, File, Revise, Redate, Withdraw, Assemble, Object, Timeline, Projects, Log, Summary, End}
 

@@ -15,7 +15,7 @@ use Rattle.nm_session.specs.Turn.{turn_of, turn_with}
 use Rattle.nm_session.specs.Word.{body_length, is_end}
 use Rattle.nm_session.specs.declared.body.Body.{Body}
 use Rattle.nm_session.specs.declared.stop.Stop.{Stop}
-use Rattle.nm_session.specs.declared.turn.State.{State}
+use Rattle.nm_session.specs.declared.state.State.{State}
 use Rattle.nm_session.specs.PlainWord.{PlainWord}
 
 -- the session may go on: more was given, within its limit, and nothing stopped it
@@ -95,9 +95,9 @@ AnswerStops stop state buffered bytes written now = NoAnswerBy stop.status stop.
 -- how a session ends at a bad line: the line that names its offset was written, or it was not, for want of
 -- memory or with a fault
 abbrev pub NamesBadLine : Status → ℕ → Option (List ℕ) → Option (List ℕ) → ℕ → ℕ → Type 0
-NamesBadLine BadSession at written now before after = Appends written now (numbered (codes "badline") at)
+NamesBadLine BadSession at written now before after = Appends written now (numbered (codes "badline") at) × (after ≡ before)
 NamesBadLine WriteFault at written now before after = AppendsFront written now (numbered (codes "badline") at) × IsRisen before after
-NamesBadLine NoMemory at written now before after = now ≡ written
+NamesBadLine NoMemory at written now before after = (now ≡ written) × (after ≡ before)
 NamesBadLine Done at written now before after = ⊥
 NamesBadLine Refused at written now before after = ⊥
 NamesBadLine Usage at written now before after = ⊥
@@ -106,22 +106,22 @@ NamesBadLine Cut at written now before after = ⊥
 NamesBadLine TooMuch at written now before after = ⊥
 NamesBadLine DoorFault at written now before after = ⊥
 
--- the session ends so, and nothing more is written
-abbrev pub EndsAs : Status → Status → Option (List ℕ) → Option (List ℕ) → Type 0
-EndsAs ending status written now = (status ≡ ending) × (now ≡ written)
+-- the session ends so, nothing more is written, and no write fails
+abbrev pub StopsAs : Status → Status → Option (List ℕ) → Option (List ℕ) → ℕ → ℕ → Type 0
+StopsAs ending status written now before after = (status ≡ ending) × (now ≡ written) × (after ≡ before)
 
 -- how a session ends with a stop
 abbrev pub EndsBy : Status → ℕ → Status → Option (List ℕ) → Option (List ℕ) → ℕ → ℕ → Type 0
 EndsBy BadSession at status written now before after = NamesBadLine status at written now before after
-EndsBy Done at status written now before after = EndsAs Done status written now
-EndsBy Refused at status written now before after = EndsAs Refused status written now
-EndsBy Usage at status written now before after = EndsAs Usage status written now
-EndsBy ReadFault at status written now before after = EndsAs ReadFault status written now
-EndsBy WriteFault at status written now before after = EndsAs WriteFault status written now
-EndsBy NoMemory at status written now before after = EndsAs NoMemory status written now
-EndsBy Cut at status written now before after = EndsAs Cut status written now
-EndsBy TooMuch at status written now before after = EndsAs TooMuch status written now
-EndsBy DoorFault at status written now before after = EndsAs DoorFault status written now
+EndsBy Done at status written now before after = StopsAs Done status written now before after
+EndsBy Refused at status written now before after = StopsAs Refused status written now before after
+EndsBy Usage at status written now before after = StopsAs Usage status written now before after
+EndsBy ReadFault at status written now before after = StopsAs ReadFault status written now before after
+EndsBy WriteFault at status written now before after = StopsAs WriteFault status written now before after
+EndsBy NoMemory at status written now before after = StopsAs NoMemory status written now before after
+EndsBy Cut at status written now before after = StopsAs Cut status written now before after
+EndsBy TooMuch at status written now before after = StopsAs TooMuch status written now before after
+EndsBy DoorFault at status written now before after = StopsAs DoorFault status written now before after
 
 abbrev pub EndsWith : Stop → Status → Option (List ℕ) → Option (List ℕ) → ℕ → ℕ → Type 0
 EndsWith stop status written now before after = EndsBy stop.status stop.at status written now before after

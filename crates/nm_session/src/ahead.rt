@@ -69,7 +69,7 @@ impl Ahead {
         ensures line { IfOk result (λ line. GivesLine self.old self.new (S.left source.old) (S.left source.new) line.items) }
         ensures lack { IfErr result (λ lack. LineLacks lack self.old (S.left source.old)) }
         ensures stays { OnErr result (self.new.given ≡ self.old.given) }
-        ensures counted { CountsLacks (S.faults source.old) (S.faults source.new) result }
+        ensures counted { CountsLacks (S.faults source.old) (S.faults source.new) (S.left source.new) result }
         ensures beside_stays { S.beside source.new ≡ S.beside source.old }
     {
         let room = self.room(LINE_ROOM);
@@ -95,7 +95,7 @@ impl Ahead {
         ensures spelling { IfOk result (λ spelling. GivesSpelling self.old self.new (S.left source.old) (S.left source.new) len spelling) }
         ensures lack { IfErr result (λ lack. BodyLacks lack len self.old (S.left source.old)) }
         ensures stays { OnErr result (self.new.given ≡ self.old.given) }
-        ensures counted { CountsLacks (S.faults source.old) (S.faults source.new) result }
+        ensures counted { CountsLacks (S.faults source.old) (S.faults source.new) (S.left source.new) result }
         ensures beside_stays { S.beside source.new ≡ S.beside source.old }
     {
         let room = self.room(len);
@@ -174,7 +174,7 @@ impl Ahead {
         ensures buffered { IfOk result (λ place. place ≡ None → room ≤ length self.new.ahead) }
         ensures lack { IfErr result (λ lack. SeekLacks lack room self.old (S.left source.old)) }
         ensures stays { OnErr result (self.new.given ≡ self.old.given) }
-        ensures counted { CountsLacks (S.faults source.old) (S.faults source.new) result }
+        ensures counted { CountsLacks (S.faults source.old) (S.faults source.new) (S.left source.new) result }
         ensures beside_stays { S.beside source.new ≡ S.beside source.old }
     {
         'reading: loop {
@@ -197,7 +197,7 @@ impl Ahead {
         ensures buffered { OnOk result (room ≤ length self.new.ahead) }
         ensures lack { IfErr result (λ lack. AheadLacks lack room self.old (S.left source.old)) }
         ensures stays { OnErr result (self.new.given ≡ self.old.given) }
-        ensures counted { CountsLacks (S.faults source.old) (S.faults source.new) result }
+        ensures counted { CountsLacks (S.faults source.old) (S.faults source.new) (S.left source.new) result }
         ensures beside_stays { S.beside source.new ≡ S.beside source.old }
     {
         'reading: while self.buffered() < room {
@@ -212,7 +212,7 @@ impl Ahead {
         ensures more { OnOk result (length self.old.ahead < length self.new.ahead) }
         ensures lack { IfErr result (λ lack. ReadLacks lack (S.left source.old)) }
         ensures stays { OnErr result (self.new.given ≡ self.old.given) }
-        ensures counted { CountsLacks (S.faults source.old) (S.faults source.new) result }
+        ensures counted { CountsLacks (S.faults source.old) (S.faults source.new) (S.left source.new) result }
         ensures beside_stays { S.beside source.new ≡ S.beside source.old }
     {
         let mut chunk = [0; CHUNK];
@@ -263,7 +263,7 @@ fn read_some<S: Source>(source: &mut S, chunk: &mut [u8]) -> Result<usize, Lack>
     ensures within { IfOk result (λ count. (0 < count) × (count ≤ length chunk.new)) }
     ensures bytes { IfOk result (λ count. Consumes (S.left source.old) (S.left source.new) (take count chunk.new)) }
     ensures lack { IfErr result (λ lack. ReadLacks lack (S.left source.old)) }
-    ensures counted { CountsLacks (S.faults source.old) (S.faults source.new) result }
+    ensures counted { CountsLacks (S.faults source.old) (S.faults source.new) (S.left source.new) result }
     ensures beside_stays { S.beside source.new ≡ S.beside source.old }
 {
     match source.read(chunk) {

@@ -4,7 +4,7 @@ ghost use Rattle.nm_model.specs.declared.document.Document.TheVariants as docume
 ghost use Rattle.nm_reader.specs.Input.{IsDocumentOf};
 ghost use Rattle.nm_session.specs.Turn as spec;
 ghost use Rattle.nm_session.specs.declared.body.Body.TheVariants as body_of;
-ghost use Rattle.nm_session.specs.declared.turn.State.TheVariants as state_of;
+ghost use Rattle.nm_session.specs.declared.state.State.TheVariants as state_of;
 ghost use Rattle.nm_terms.specs.Due.{IsDue};
 ghost use Rattle.nm_version.specs.After.{commit_of};
 ghost use Rattle.nm_version.specs.Command.{IsSpelt};
@@ -15,7 +15,7 @@ ghost use Rattle.std.specs.Prelude.{◌≡◌, ◌<◌, IfOk, OnErr};
 use crate::answer::{numbered, refused, refused_document};
 use crate::body::Body;
 use crate::reply::Reply;
-use crate::turn::State;
+use crate::state::State;
 use nm_base::{NoMemory, Steps};
 use nm_day::Day;
 use nm_ident::Text;

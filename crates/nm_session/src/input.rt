@@ -61,7 +61,7 @@ impl Input {
         ensures stops { IfErr result (λ stop. self.old.stopped ≡ None → StopsAt self.old self.new stop) }
         ensures why { IfErr result (λ stop. self.old.stopped ≡ None → LineStops stop self.old.buffered (S.left source.old)) }
         ensures again { IfSome self.old.stopped (λ earlier. StopsAgain earlier result self.old self.new (S.left source.old) (S.left source.new) (S.faults source.old) (S.faults source.new)) }
-        ensures counted { CountsReads self.old.stopped (S.faults source.old) (S.faults source.new) result }
+        ensures counted { CountsReads self.old.stopped (S.faults source.old) (S.faults source.new) (S.left source.new) result }
         ensures beside_stays { S.beside source.new ≡ S.beside source.old }
     {
         if let Some(stop) = self.stopped {
@@ -95,7 +95,7 @@ impl Input {
         ensures stops { IfErr result (λ stop. self.old.stopped ≡ None → StopsAt self.old self.new stop) }
         ensures why { IfErr result (λ stop. self.old.stopped ≡ None → BodyStops stop len self.old.buffered (S.left source.old)) }
         ensures again { IfSome self.old.stopped (λ earlier. StopsAgain earlier result self.old self.new (S.left source.old) (S.left source.new) (S.faults source.old) (S.faults source.new)) }
-        ensures counted { CountsReads self.old.stopped (S.faults source.old) (S.faults source.new) result }
+        ensures counted { CountsReads self.old.stopped (S.faults source.old) (S.faults source.new) (S.left source.new) result }
         ensures beside_stays { S.beside source.new ≡ S.beside source.old }
     {
         if let Some(stop) = self.stopped {

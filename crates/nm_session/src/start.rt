@@ -3,14 +3,14 @@ ghost use Rattle.nm_base.specs.Faults.{IsRisen};
 ghost use Rattle.nm_session.specs.Input.{CountsReads, IsInputStop};
 ghost use Rattle.nm_session.specs.Opening as spec;
 ghost use Rattle.nm_session.specs.Stream.{outcome};
-ghost use Rattle.nm_session.specs.declared.turn.State.TheVariants as state_of;
+ghost use Rattle.nm_session.specs.declared.state.State.TheVariants as state_of;
 ghost use Rattle.nm_terms.specs.Due.{IsDue};
 ghost use Rattle.std.specs.Prelude.{◌≡◌, ◌≤◌, [], None, IfErr, IfSome, OnOk};
 
 use crate::input::Input;
+use crate::state::State;
 use crate::stop::Stop;
 use crate::taking::take_turn;
-use crate::turn::State;
 use nm_base::{NoMemory, Source, Status};
 use nm_version::Version;
 use std::alloc::Global;
@@ -54,7 +54,8 @@ pub fn opening<S: Source>(alloc: Global, source: &mut S) -> Result<Version, Open
     ensures due { IfSome (S.left source.old) (λ stream. IsDue spec.tells_no_ending result (spec.opening_of stream)) }
     ensures complete { IfSome (S.left source.old) (λ stream. (IsRisen (S.faults source.old) (S.faults source.new) → ⊥)
         → IsDue spec.wants_memory result (spec.opening_of stream)) }
-    ensures cause { IfErr result (λ error. spec.HasCause error (S.faults source.old) (S.faults source.new)) }
+    ensures cause { IfErr result (λ error. spec.HasCause error (S.faults source.old) (S.faults source.new) (S.left source.new)) }
+    ensures unfailed { OnOk result (S.faults source.new ≡ S.faults source.old) }
     ensures reads_kept { S.faults source.old ≤ S.faults source.new }
     ensures beside_stays { S.beside source.new ≡ S.beside source.old }
 {
@@ -82,7 +83,7 @@ fn run_to_end<S: Source>(
     ensures done { OnOk result (IfSome (S.left source.old) (λ stream. spec.IsDoneIn (outcome stream) state.new)) }
     ensures stop { IfErr result (λ stop. IfSome (S.left source.old) (λ stream. spec.TellsEnding stop (outcome stream))) }
     ensures placed { IfErr result (λ stop. IsInputStop stop) }
-    ensures counted { CountsReads None (S.faults source.old) (S.faults source.new) result }
+    ensures counted { CountsReads None (S.faults source.old) (S.faults source.new) (S.left source.new) result }
     ensures beside_stays { S.beside source.new ≡ S.beside source.old }
 {
     'turns: loop {

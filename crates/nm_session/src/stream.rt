@@ -1,16 +1,16 @@
 // Sessions: a stream of commands, and their replies.
 ghost use Rattle.std.specs.Prelude.{◌≡◌, ◌≤◌, None, IfOk, IfErr, OnOk, IfSome};
 ghost use Rattle.nm_base.specs.declared.outcome.Status.TheVariants.{BadSession};
-ghost use Rattle.nm_session.specs.Answered.{AnswersStream, AnswersUnlessFaults, HasCause};
+ghost use Rattle.nm_session.specs.Answered.{AnswersStream, AnswersUnlessFaults, HasCause, NoneFailed};
 ghost use Rattle.nm_session.specs.Input.{coming};
 ghost use Rattle.nm_session.specs.Turns.{AnswersTurn, AnswerStops, EndsWith, GoesOn, NamesBadLine};
 
 use crate::answer::numbered;
 use crate::input::Input;
 use crate::output::write_out;
+use crate::state::State;
 use crate::stop::Stop;
 use crate::taking::take_turn;
-use crate::turn::State;
 use nm_base::{Sink, Source, Status};
 use std::alloc::Global;
 
@@ -22,14 +22,14 @@ use std::alloc::Global;
 /// - `Done`: the last command was `end`;
 /// - `BadSession`: a line was no command that is allowed there, or was longer than 256 bytes.
 ///   The line `badline OFFSET` was written last, with the place in the stream where it begins;
-/// - `Cut`: the stream ended before its last command;
+/// - `Cut`: the stream ended before its last command, and the source has nothing left;
 /// - `TooMuch`: the session took as many bytes as it may, and no `end` was among them;
 /// - `ReadFault` and `WriteFault`: the source or the sink failed, and some of the first replies were
 ///   written;
 /// - `NoMemory`: the same for want of memory.
 pub fn session<S: Source, K: Sink>(alloc: Global, source: &mut S, sink: &mut K) -> Status
     ensures answers { IfSome (S.left source.old) (λ stream. AnswersStream stream result (K.written sink.old) (K.written sink.new)) }
-    ensures cause { HasCause result (S.faults source.old) (S.faults source.new) (K.faults sink.old) (K.faults sink.new) }
+    ensures cause { HasCause result (S.faults source.old) (S.faults source.new) (K.faults sink.old) (K.faults sink.new) (S.left source.new) }
     ensures complete { IfSome (S.left source.old) (λ stream.
         AnswersUnlessFaults stream result (K.written sink.old) (K.written sink.new) (S.faults source.old) (S.faults source.new) (K.faults sink.old) (K.faults sink.new)) }
     ensures reads_kept { S.faults source.old ≤ S.faults source.new }
@@ -63,7 +63,8 @@ fn turn<S: Source, K: Sink>(
         AnswersTurn state.old state.new input.old.buffered input.new.buffered bytes (S.left source.new) (K.written sink.old) (K.written sink.new) last)) }
     ensures stop { IfErr result (λ stop. IfSome (coming input.old.buffered (S.left source.old)) (λ bytes.
         AnswerStops stop state.old input.old.buffered bytes (K.written sink.old) (K.written sink.new))) }
-    ensures cause { IfErr result (λ stop. HasCause stop.status (S.faults source.old) (S.faults source.new) (K.faults sink.old) (K.faults sink.new)) }
+    ensures cause { IfErr result (λ stop. HasCause stop.status (S.faults source.old) (S.faults source.new) (K.faults sink.old) (K.faults sink.new) (S.left source.new)) }
+    ensures unfailed { OnOk result (NoneFailed (S.faults source.old) (S.faults source.new) (K.faults sink.old) (K.faults sink.new)) }
     ensures goes_on { OnOk result (GoesOn input.old input.new) }
     ensures reads_kept { S.faults source.old ≤ S.faults source.new }
     ensures writes_kept { K.faults sink.old ≤ K.faults sink.new }

@@ -6,7 +6,7 @@ ghost use Rattle.nm_session.specs.Input.{coming, BodyStops, CountsReads, IsInput
 ghost use Rattle.nm_session.specs.Limits.{longest_session};
 ghost use Rattle.nm_session.specs.PlainWord.{plain};
 ghost use Rattle.nm_session.specs.Stops.{bad_line_at};
-ghost use Rattle.nm_session.specs.Stream.{BadLine, by_word, with_body};
+ghost use Rattle.nm_session.specs.Stream.{BadLine, by_word, command_with_body};
 ghost use Rattle.nm_session.specs.Turn.{allows};
 ghost use Rattle.nm_session.specs.Turns.{GoesOn, TakesBody, TakesTurn, TurnStops};
 ghost use Rattle.nm_session.specs.Word.{body_length, is_named, length_asked, word_of};
@@ -15,8 +15,9 @@ ghost use Rattle.std.specs.Prelude.{◌≡◌, ℕ, ◌≤◌, List, None, IfOk,
 use crate::body::Body;
 use crate::input::Input;
 use crate::reply::Reply;
+use crate::state::State;
 use crate::stop::Stop;
-use crate::turn::{State, step};
+use crate::turn::step;
 use crate::word::{Word, line};
 use nm_base::{Source, Status};
 use std::alloc::Global;
@@ -35,7 +36,7 @@ pub fn take_turn<S: Source>(
         TurnStops stop state.old input.old.buffered bytes)) }
     ensures goes_on { OnOk result (GoesOn input.old input.new) }
     ensures placed { IfErr result (λ stop. IsInputStop stop) }
-    ensures counted { CountsReads None (S.faults source.old) (S.faults source.new) result }
+    ensures counted { CountsReads None (S.faults source.old) (S.faults source.new) (S.left source.new) result }
     ensures beside_stays { S.beside source.new ≡ S.beside source.old }
 {
     let at = input.offset();
@@ -53,7 +54,7 @@ pub fn take_turn<S: Source>(
 /// The command of a line, where it is one in this state.
 fn command<'a>(state: &State, bytes: &'a [u8], at: u64) -> Result<Word<'a>, Stop>
     ensures word { IfOk result (λ word. IsTrue (allows state.now (plain word)) × (body_length (plain word) ≤ longest_document) × IsTrue (is_named (plain word))
-        × ((rest : List ℕ) → by_word state.now (word_of bytes.now) rest ≡ with_body (plain word) rest)) }
+        × ((rest : List ℕ) → by_word state.now (word_of bytes.now) rest ≡ command_with_body (plain word) rest)) }
     ensures bad { IfErr result (λ stop. (stop ≡ bad_line_at at)
         × ((rest : List ℕ) → by_word state.now (word_of bytes.now) rest ≡ BadLine)) }
 {
@@ -81,7 +82,7 @@ fn take_body<S: Source>(
     ensures fresh { OnOk result (input.new.stopped ≡ None) }
     ensures stop { IfErr result (λ stop. BodyStops stop (body_length (plain word.now)) input.old.buffered (S.left source.old)) }
     ensures placed { IfErr result (λ stop. IsInputStop stop) }
-    ensures counted { CountsReads None (S.faults source.old) (S.faults source.new) result }
+    ensures counted { CountsReads None (S.faults source.old) (S.faults source.new) (S.left source.new) result }
     ensures beside_stays { S.beside source.new ≡ S.beside source.old }
 {
     match word.length() {

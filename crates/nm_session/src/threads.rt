@@ -4,8 +4,8 @@ use crate::body::Body;
 use crate::input::Input;
 use crate::reply::Reply;
 use crate::start::OpeningError;
+use crate::state::State;
 use crate::stop::Stop;
-use crate::turn::State;
 use crate::word::Word;
 
 fn crosses_threads<T: Send + Sync>() {}

@@ -8,7 +8,7 @@ ghost use Rattle.std.specs.Option.{is_some};
 ghost use Rattle.nm_session.specs.Body.{IsBodyOf};
 ghost use Rattle.nm_session.specs.Word.{is_named, is_query, length_asked, object_named};
 ghost use Rattle.nm_session.specs.declared.body.Body.TheVariants as absent;
-ghost use Rattle.nm_session.specs.declared.turn.State.TheVariants as state_of;
+ghost use Rattle.nm_session.specs.declared.state.State.TheVariants as state_of;
 ghost use Rattle.nm_version.specs.Assembly.{assembly};
 ghost use Rattle.nm_version.specs.Kept.{number_of};
 ghost use Rattle.nm_version.specs.Listing.{log_of};
@@ -21,6 +21,7 @@ use crate::answer::{lines_told, numbered, projects, statements_told, summary, wi
 use crate::body::Body;
 use crate::changes::{commit, file, revise, take_base};
 use crate::reply::Reply;
+use crate::state::State;
 use crate::word::Word;
 use nm_base::NoMemory;
 use nm_day::Day;
@@ -28,53 +29,6 @@ use nm_ident::{Ident, IdentError};
 use nm_version::{Command, Version};
 use nm_writer::write_full;
 use std::alloc::Global;
-
-/// What a session stands in.
-#[derive(Drop)]
-pub enum State {
-    /// No base was accepted yet.
-    Empty,
-    /// A base was accepted.
-    Store(Version),
-}
-
-impl State {
-    /// Whether the line is a command here: `base` until a base is accepted, the others after that,
-    /// and `end` always.
-    pub(crate) fn allows(&self, word: &Word) -> bool
-        ensures { result ≡ spec.allows self.now (plain word.now) }
-    {
-        match self {
-            State::Empty => match word {
-                Word::Base { .. } | Word::End => true,
-                Word::File { .. }
-                | Word::Revise { .. }
-                | Word::Redate { .. }
-                | Word::Withdraw { .. }
-                | Word::Assemble { .. }
-                | Word::Object { .. }
-                | Word::Timeline { .. }
-                | Word::Projects
-                | Word::Log
-                | Word::Summary { .. } => false,
-            },
-            State::Store(_) => match word {
-                Word::File { .. }
-                | Word::Revise { .. }
-                | Word::Redate { .. }
-                | Word::Withdraw { .. }
-                | Word::Assemble { .. }
-                | Word::Object { .. }
-                | Word::Timeline { .. }
-                | Word::Projects
-                | Word::Log
-                | Word::Summary { .. }
-                | Word::End => true,
-                Word::Base { .. } => false,
-            },
-        }
-    }
-}
 
 /// The reply to a command with its body. After want of memory the state is the old one.
 ///

@@ -1,5 +1,5 @@
 -- Bytes that are given to a sink part by part.
-use Rattle.std.specs.Prelude.{◌≡◌, ℕ, ◌≤◌, List, ◌++◌, Option, Result, IfErr}
+use Rattle.std.specs.Prelude.{◌≡◌, ℕ, ◌≤◌, List, ◌++◌, Option, Result, IfErr, OnOk}
 use Rattle.std.specs.Io.KnownBytes.{Appends}
 use Rattle.nm_base.specs.Faults.{IsRisen}
 use Rattle.nm_writer.specs.declared.error.WriteError.{WriteError}
@@ -15,12 +15,13 @@ pub record Leaves (old new : Option (List ℕ)) (bytes left : List ℕ) : Type 0
 abbrev pub LeavesSome : Option (List ℕ) → Option (List ℕ) → List ℕ → Type 0
 LeavesSome old new bytes = (left : List ℕ) × Leaves old new bytes left
 
--- the count rose, where the error is a fault of the sink
-abbrev pub IsRisenIfFault : WriteError → ℕ → ℕ → Type 0
-IsRisenIfFault write_error.Fault before after = IsRisen before after
-IsRisenIfFault write_error.NoMemory before after = Unit {0}
+-- the count rose where the error is a fault of the sink, and stays with the other
+abbrev pub HasWriteCause : WriteError → ℕ → ℕ → Type 0
+HasWriteCause write_error.Fault before after = IsRisen before after
+HasWriteCause write_error.NoMemory before after = after ≡ before
 
--- the sink's count never falls, and a fault comes only where it rose
+-- the sink's count never falls, and it stays but where a fault comes
 pub record CountsWriteFaults {T : Type 0} (before after : ℕ) (result : Result T WriteError) : Type 0 where
   pub kept : before ≤ after
-  pub rose : IfErr result (λ error. IsRisenIfFault error before after)
+  pub cause : IfErr result (λ error. HasWriteCause error before after)
+  pub stays : OnOk result (after ≡ before)

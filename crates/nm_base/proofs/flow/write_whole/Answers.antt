@@ -9,6 +9,6 @@ loop-at-preserved g c =
     record {
       within = omega (arith, length-take {A = ℕ}, length-drop {A = ℕ}, call.within);
       appended = Appends-more _ _ _ _ c.loop-at.at _ before.appended call.bytes;
-      kept = omega (arith, before.kept, call.counted.kept);
+      steady = call.counted.stays ∙ before.steady;
       beside_stays = call.beside_stays ∙ before.beside_stays;
     }

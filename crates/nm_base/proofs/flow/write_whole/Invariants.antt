@@ -1,4 +1,4 @@
--- The bytes before `at` were appended, and no fault was counted that an answer would hide.
+-- The bytes before `at` were appended, and no fault was counted.
 use Rattle.std.proofs.Common.{◌≡◌, ◌-◌, ◌≤◌, length, take}
 use Rattle.std.specs.Io.KnownBytes.{Appends}
 use Rattle.nm_base.proofs.flow.write_whole.Given as goal
@@ -9,7 +9,7 @@ invariant-loop-at g l =
     record {
       within : l.at ≤ length l.bytes;
       appended : Appends (sink.written l.fn.sink) (sink.written l.sink) (take l.at l.bytes);
-      kept : sink.faults l.fn.sink ≤ sink.faults l.sink;
+      steady : sink.faults l.sink ≡ sink.faults l.fn.sink;
       beside_stays : sink.beside l.sink ≡ sink.beside l.fn.sink;
     }
 

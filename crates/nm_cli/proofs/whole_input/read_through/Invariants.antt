@@ -1,5 +1,5 @@
--- What was read is the front of the input, and no fault is lost.
-use Rattle.std.proofs.Common.{◌≡◌, ◌+◌, ◌-◌, ◌≤◌, length}
+-- What was read is the front of the input, and no read failed.
+use Rattle.std.proofs.Common.{◌≡◌, ◌+◌, ◌-◌, length}
 use Rattle.std.specs.Io.KnownBytes.{Consumes}
 use Rattle.nm_model.specs.Limits.{longest_document}
 use Rattle.nm_cli.proofs.whole_input.read_through.Given as goal
@@ -9,7 +9,7 @@ invariant-reading g l =
     let source = g.S.Source in
     record {
       taken : Consumes (source.left l.fn.source) (source.left l.source) l.bytes.items;
-      kept : source.faults l.fn.source ≤ source.faults l.source;
+      unfailed : source.faults l.source ≡ source.faults l.fn.source;
       beside_stays : source.beside l.source ≡ source.beside l.fn.source;
     }
 

@@ -9,7 +9,7 @@ pub turns-init : goal.turns-init
 turns-init g c = record {
   along = along_first c.args.input.now (g.S.Source.left c.args.source.now) c.args.state.now c.requires.new c.requires.empty;
   fresh = ap (λ (i : Received). i.stopped) c.requires.new;
-  reads_kept = omega arith;
+  unfailed = refl;
   beside_stays = refl;
 }
 
@@ -35,6 +35,6 @@ turns-preserved g c =
           (λ stream along. along_next stream c.turns.input.buffered c.take_turn.new.input.buffered _ _ c.turns.state _ _ c.in_ok-is_last.is_last c.if-is_last.false along call.turn call.goes_on.more call.goes_on.limit)
           before.along;
       fresh = call.goes_on.fresh;
-      reads_kept = omega (arith, before.reads_kept, call.counted.kept);
+      unfailed = call.counted.stays ∙ before.unfailed;
       beside_stays = call.beside_stays ∙ before.beside_stays;
     }

@@ -1,5 +1,5 @@
--- In between two commands the opening stands in its stream, and no fault is lost.
-use Rattle.std.proofs.Common.{◌≡◌, ◌-◌, ◌≤◌, None, IfSome}
+-- In between two commands the opening stands in its stream, and no read failed.
+use Rattle.std.proofs.Common.{◌≡◌, ◌-◌, None, IfSome}
 use Rattle.nm_session.proofs.Openings.{Along}
 use Rattle.nm_session.specs.Limits.{longest_session}
 use Rattle.nm_session.proofs.start.run_to_end.Given as goal
@@ -10,7 +10,7 @@ invariant-turns g l =
     record {
       along : IfSome (source.left l.fn.source) (λ stream. Along stream l.input.buffered (source.left l.source) l.state);
       fresh : l.input.stopped ≡ None;
-      reads_kept : source.faults l.fn.source ≤ source.faults l.source;
+      unfailed : source.faults l.source ≡ source.faults l.fn.source;
       beside_stays : source.beside l.source ≡ source.beside l.fn.source;
     }
 

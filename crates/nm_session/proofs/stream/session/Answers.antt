@@ -1,4 +1,4 @@
-use Rattle.std.proofs.Common.{refl, ap, arith, ◌∙◌}
+use Rattle.std.proofs.Common.{refl, ap, ◌∙◌}
 use Rattle.nm_session.specs.Received.{Received}
 use Rattle.nm_session.proofs.Sessions.{each, stands_first, stands_next, is_done, ends_stopped, ended_cause, is_complete}
 use Rattle.nm_session.proofs.stream.session.Goals as goal
@@ -7,8 +7,8 @@ pub turns-init : goal.turns-init
 turns-init g c = record {
   stands = stands_first c.in-Ok.input (g.S.Source.left c.args.source.now) (g.K.Sink.written c.args.sink.now) c.in-Ok.ensures;
   fresh = ap (λ (i : Received). i.stopped) c.in-Ok.ensures;
-  reads_kept = omega arith;
-  writes_kept = omega arith;
+  reads_unfailed = refl;
+  writes_unfailed = refl;
   source_beside = refl;
   sink_beside = refl;
 }
@@ -22,8 +22,8 @@ turns-preserved g c =
           (λ stream stands. stands_next stream c.turns.input.buffered c.turn.new.input.buffered _ _ c.turns.state _ _ _ _ c.in-Ok-false.field-0 c.in-Ok-false.field-0-test stands call.turn call.goes_on.more call.goes_on.limit)
           before.stands;
       fresh = call.goes_on.fresh;
-      reads_kept = omega (arith, before.reads_kept, call.reads_kept);
-      writes_kept = omega (arith, before.writes_kept, call.writes_kept);
+      reads_unfailed = call.unfailed.0 ∙ before.reads_unfailed;
+      writes_unfailed = call.unfailed.1 ∙ before.writes_unfailed;
       source_beside = call.source_beside ∙ before.source_beside;
       sink_beside = call.sink_beside ∙ before.sink_beside;
     }
@@ -37,7 +37,8 @@ returns-in-Ok-true-clause-answers g c =
 pub returns-in-Ok-true-clause-complete : goal.returns-in-Ok-true-clause-complete
 returns-in-Ok-true-clause-complete g c =
     each (g.S.Source.left c.args.source.now)
-    (λ stream stands. is_complete stream _ _ _ _ _ _ _ tt
+    (λ stream stands. is_complete stream _ _ _ _ _ _ _ (g.S.Source.left c.turn.new.source)
+    (c.in-Ok-true.ensures.unfailed.0 ∙ c.turns.invariant.reads_unfailed, c.in-Ok-true.ensures.unfailed.1 ∙ c.turns.invariant.writes_unfailed)
     (is_done stream c.turns.input.buffered c.turn.new.input.buffered _ _ c.turns.state _ _ _ _ c.in-Ok-true.field-0 c.in-Ok-true.field-0-test stands c.in-Ok-true.ensures.turn))
     c.turns.invariant.stands
 
@@ -52,9 +53,20 @@ returns-in-Err-clause-complete g c =
     let before = c.turns.invariant in
     let call = c.in-Err.ensures in
     each (g.S.Source.left c.args.source.now)
-    (λ stream stands. is_complete stream _ _ _ _ _ _ _
+    (λ stream stands. is_complete stream _ _ _ _ _ _ _ (g.S.Source.left c.turn.new.source)
     (ended_cause c.in-Err.stop c.ended.result _ _ (g.S.Source.faults c.args.source.now) (g.S.Source.faults c.turns.source) (g.S.Source.faults c.turn.new.source)
-    (g.K.Sink.faults c.args.sink.now) (g.K.Sink.faults c.turns.sink) (g.K.Sink.faults c.turn.new.sink) (g.K.Sink.faults c.ended.new.sink)
-    call.cause before.reads_kept before.writes_kept call.writes_kept c.ended.ensures.writes_kept c.ended.ensures.ends)
+    (g.K.Sink.faults c.args.sink.now) (g.K.Sink.faults c.turns.sink) (g.K.Sink.faults c.turn.new.sink) (g.K.Sink.faults c.ended.new.sink) (g.S.Source.left c.turn.new.source)
+    call.cause before.reads_unfailed before.writes_unfailed c.ended.ensures.ends)
     (ends_stopped stream c.turns.input.buffered _ c.turns.state c.in-Err.stop _ _ _ _ _ _ _ stands call.stop c.ended.ensures.ends))
     before.stands
+
+pub returns-in-Ok-true-clause-cause : goal.returns-in-Ok-true-clause-cause
+returns-in-Ok-true-clause-cause g c =
+    (c.in-Ok-true.ensures.unfailed.0 ∙ c.turns.invariant.reads_unfailed, c.in-Ok-true.ensures.unfailed.1 ∙ c.turns.invariant.writes_unfailed)
+
+pub returns-in-Err-clause-cause : goal.returns-in-Err-clause-cause
+returns-in-Err-clause-cause g c =
+    let before = c.turns.invariant in
+    ended_cause c.in-Err.stop c.ended.result _ _ (g.S.Source.faults c.args.source.now) (g.S.Source.faults c.turns.source) (g.S.Source.faults c.turn.new.source)
+    (g.K.Sink.faults c.args.sink.now) (g.K.Sink.faults c.turns.sink) (g.K.Sink.faults c.turn.new.sink) (g.K.Sink.faults c.ended.new.sink) (g.S.Source.left c.turn.new.source)
+    c.in-Err.ensures.cause before.reads_unfailed before.writes_unfailed c.ended.ensures.ends

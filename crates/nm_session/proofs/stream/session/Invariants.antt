@@ -1,5 +1,5 @@
--- In between two commands the session stands in its stream, and no fault is lost.
-use Rattle.std.proofs.Common.{◌≡◌, ◌-◌, ◌≤◌, None, IfSome}
+-- In between two commands the session stands in its stream, and no call failed.
+use Rattle.std.proofs.Common.{◌≡◌, ◌-◌, None, IfSome}
 use Rattle.nm_session.proofs.Sessions.{Written}
 use Rattle.nm_session.specs.Limits.{longest_session}
 use Rattle.nm_session.proofs.stream.session.Given as goal
@@ -12,8 +12,8 @@ invariant-turns g l =
       stands : IfSome (source.left l.fn.source) (λ stream.
           Written stream l.input.buffered (source.left l.source) l.state (sink.written l.fn.sink) (sink.written l.sink));
       fresh : l.input.stopped ≡ None;
-      reads_kept : source.faults l.fn.source ≤ source.faults l.source;
-      writes_kept : sink.faults l.fn.sink ≤ sink.faults l.sink;
+      reads_unfailed : source.faults l.source ≡ source.faults l.fn.source;
+      writes_unfailed : sink.faults l.sink ≡ sink.faults l.fn.sink;
       source_beside : source.beside l.source ≡ source.beside l.fn.source;
       sink_beside : sink.beside l.sink ≡ sink.beside l.fn.sink;
     }

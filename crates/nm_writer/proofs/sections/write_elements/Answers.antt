@@ -27,7 +27,7 @@ loop-rest-preserved g c =
       passed =
           block_passed (written c.args.sink.now) (written c.loop-rest.sink) (written c.pass_if_full.new.sink) all before c.append_element.new.out.items behind c.pass_if_full.new.block.items
           c.loop-rest.invariant.passed step c.in_ok-pass_if_full.ensures.passed;
-      kept = omega (arith, c.loop-rest.invariant.kept, c.in_ok-pass_if_full.ensures.counted.kept);
+      unfailed = c.in_ok-pass_if_full.ensures.counted.stays ∙ c.loop-rest.invariant.unfailed;
       beside_stays = c.in_ok-pass_if_full.ensures.beside_stays ∙ c.loop-rest.invariant.beside_stays;
     }
 

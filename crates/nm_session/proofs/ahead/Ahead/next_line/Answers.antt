@@ -1,6 +1,6 @@
 use Rattle.std.proofs.Common.{arith, ap, sym, ◌∙◌}
 use Rattle.std.proofs.lemmas.Result.{err_from_is_err_and}
-use Rattle.nm_session.proofs.Gives.{gives_line, line_lacks, no_line_lacks, is_no_fault}
+use Rattle.nm_session.proofs.Gives.{gives_line, line_lacks, no_line_lacks, no_line_tells}
 use Rattle.nm_session.proofs.ahead.Ahead.next_line.Goals as goal
 
 pub returns-in_err-place-clause-lack : goal.returns-in_err-place-clause-lack
@@ -21,5 +21,6 @@ returns-in-None-clause-lack g c =
 pub returns-in-None-clause-counted : goal.returns-in-None-clause-counted
 returns-in-None-clause-counted g c = record {
   kept = c.in_ok-place.ensures.counted.kept;
-  rose = λ e. absurd (is_no_fault c.no_line.result c.room-room.result (record { long = c.no_line.ensures.long; full = c.no_line.ensures.full }) e);
+  stays = tt;
+  tells = no_line_tells c.no_line.result c.room-room.result _ _ _ (record { long = c.no_line.ensures.long; full = c.no_line.ensures.full }) c.in_ok-place.ensures.counted.stays;
 }

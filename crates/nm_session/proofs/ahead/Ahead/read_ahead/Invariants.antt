@@ -1,5 +1,5 @@
--- What comes stays the same, and no fault is lost.
-use Rattle.std.proofs.Common.{◌≡◌, ◌-◌, ◌≤◌, length}
+-- What comes stays the same, and no read failed.
+use Rattle.std.proofs.Common.{◌≡◌, ◌-◌, length}
 use Rattle.nm_session.specs.Ahead.{ReadsAhead}
 use Rattle.nm_session.proofs.ahead.Ahead.read_ahead.Given as goal
 
@@ -8,7 +8,7 @@ invariant-reading g l =
     let source = g.S.Source in
     record {
       ahead : ReadsAhead l.fn.self l.self (source.left l.fn.source) (source.left l.source);
-      kept : source.faults l.fn.source ≤ source.faults l.source;
+      unfailed : source.faults l.source ≡ source.faults l.fn.source;
       beside_stays : source.beside l.source ≡ source.beside l.fn.source;
     }
 
