@@ -9,7 +9,7 @@ use Rattle.nm_writer.specs.Canonical.{canonical_full}
 use Rattle.nm_gen.specs.Days.{day_after}
 use Rattle.nm_gen.specs.Draws.{drawn, state_after}
 use Rattle.nm_gen.specs.Models.{base_model, substations}
-use Rattle.nm_gen.specs.Stream.{filing_to, redating, redating_to, withdrawal}
+use Rattle.nm_gen.specs.Stream.{base_command, ending, filing_to, filings, redating, redating_to, redatings, stream_of, withdrawal, withdrawals}
 use Rattle.nm_gen.specs.Terms.{level_id, substation_id}
 
 -- ---- draws and days
@@ -112,3 +112,20 @@ fifth_project = refl
 
 sixth_project : withdrawal 6 ≡ []
 sixth_project = refl
+
+-- of six projects the third and the sixth are moved, to the days of one more draw each
+two_moved : redatings 0 6 ≡ lines (
+    codes "redate 00000002-0000-4000-8000-000000000003 2028-12-08"
+    ∷ codes "redate 00000002-0000-4000-8000-000000000006 2033-05-13"
+    ∷ [])
+unfolding state_after day_after uuid_text uuid_on_literals
+two_moved = refl
+
+fifth_withdrawn : withdrawals 6 ≡ lines (codes "withdraw 00000002-0000-4000-8000-000000000005" ∷ [])
+unfolding uuid_text uuid_on_literals
+fifth_withdrawn = refl
+
+-- the parts of a stream, in their order; one project is neither moved nor withdrawn
+one_project : stream_of 1 7 ≡ base_command ++ filings 7 1 ++ [] ++ [] ++ ending
+unfolding stream_of
+one_project = refl
