@@ -5,6 +5,7 @@
 mod document;
 mod header;
 mod limits;
+mod threads;
 
 pub use document::{Difference, Document, Full};
 pub use header::Header;

@@ -16,7 +16,7 @@ use Rattle.nm_text.specs.Characters.{is_character, is_text}
 use Rattle.nm_reader.specs.Context.{Context, entered, tag_at}
 use Rattle.nm_reader.specs.Cutting.{Spelt}
 use Rattle.nm_reader.specs.Limits.{is_within_limits, plus}
-use Rattle.nm_reader.specs.Meaning.{are_allowed, has_short_iris, header_link_meaning, header_meaning, header_text_meaning, identity_of, inside_of, link_meaning, linked_by, meaning_of, model_of, object_meaning, only_inside, property_meaning, resource_name, told_by, value_of}
+use Rattle.nm_reader.specs.Meaning.{are_allowed, has_short_iris, header_link_meaning, header_meaning, header_text_meaning, identity_of, inside_of, link_meaning, linked_by, meaning_of, model_id_of, object_meaning, only_inside, property_meaning, resource_name, told_by, value_of}
 use Rattle.nm_reader.specs.Namespaces.{Given, are_spelt_once, declared_by, has_declared_prefixes, has_namespace, same_name}
 use Rattle.nm_reader.specs.Place.{description_name, place_behind}
 use Rattle.nm_reader.specs.Rules.{code_at, is_header, is_header_property, is_nested, is_of_object, is_stray, lacks_header, role_judged}
@@ -82,7 +82,7 @@ property_sound _ element resource = refl
 inside_sound : (place : Place) (role : Role) (element : QualifiedName) (given : List Given) → is_sound_place (inside_of (meaning_of place role element given)) ≡ true
 inside_sound place RootElement element given = refl
 inside_sound place EmptyRoot element given = refl
-inside_sound place (ModelHeader kind) element given = header_sound kind (model_of given)
+inside_sound place (ModelHeader kind) element given = header_sound kind (model_id_of given)
 inside_sound place (HeaderText property) element given = text_sound property (value_of resource_name given)
 inside_sound place (HeaderLink property) element given = link_sound property (linked_by given)
 inside_sound place OtherProperty element given = refl

@@ -3,7 +3,7 @@ use Rattle.std.proofs.Common.{◌≡◌, ℕ, List, [], ◌∷◌, ◌++◌, cod
 use Rattle.std.specs.Option.{option_map}
 use Rattle.nm_ident.specs.QualifiedName.{QualifiedName}
 use Rattle.nm_reader.specs.Blocks.{Blocks, End, Skip, Text, Empty, Element, fits, place_after, tag_in, told}
-use Rattle.nm_reader.specs.Meaning.{are_allowed, has_short_iris, header_meaning, inside_of, meaning_of, model_of, told_by}
+use Rattle.nm_reader.specs.Meaning.{are_allowed, has_short_iris, header_meaning, inside_of, meaning_of, model_id_of, told_by}
 use Rattle.nm_reader.specs.Namespaces.{Given, are_spelt_once, has_declared_prefixes, has_namespace, same_name, scope_inside}
 use Rattle.nm_reader.specs.Opened.{Declaration}
 use Rattle.nm_piece.specs.declared.piece.Attribute.{Attribute}
@@ -34,8 +34,8 @@ header_told kind (Some id) means = (kind, id, [], refl)
 header_by_name : (place : Place) (full difference : Bool) (element : QualifiedName) (given : List Given)
     → is_some (meaning_of place (if full then ModelHeader Full else if difference then ModelHeader Difference else NoHeader) element given) ≡ true
     → IsHeaded (told_by (meaning_of place (if full then ModelHeader Full else if difference then ModelHeader Difference else NoHeader) element given))
-header_by_name place true difference element given means = header_told Full (model_of given) means
-header_by_name place false true element given means = header_told Difference (model_of given) means
+header_by_name place true difference element given means = header_told Full (model_id_of given) means
+header_by_name place false true element given means = header_told Difference (model_id_of given) means
 header_by_name place false false element given means = not_false means
 
 -- of six tests the fifth

@@ -1,5 +1,5 @@
 -- Worked examples of inputs, computed byte by byte.
-use Rattle.std.proofs.Common.{◌≡◌, ℕ, List, [], ◌∷◌, ◌++◌, codes, Option, None, Some, refl}
+use Rattle.std.proofs.Common.{◌≡◌, ℕ, List, [], ◌∷◌, ◌++◌, codes, true, false, Option, None, Some, refl}
 use lib.Utf8.{encode}
 use Rattle.nm_ident.specs.Name.{md_namespace, rdf_namespace, type_name}
 use Rattle.nm_ident.specs.declared.ident.Ident.TheVariants.{Local}
@@ -13,7 +13,11 @@ use Rattle.nm_piece.specs.Run.{begins_run, run_at, run_of}
 use Rattle.nm_piece.specs.Start.{behind_encoding, behind_version, encoding_at, standalone_at, start_at, version_at}
 use Rattle.nm_piece.specs.Tag.{attribute_at, close_at, inside_at, inside_within, open_at}
 use Rattle.nm_piece.specs.Value.{begins_value, value_of}
-use Rattle.nm_reader.specs.Input.{cut_within, fault_of_input, model_of_input}
+use Rattle.nm_piece.specs.declared.piece.Piece.TheVariants as piece
+use Rattle.nm_reader.specs.Code.{code_number, code_text}
+use Rattle.nm_reader.specs.Cutting.{More, NoPiece, Unfinished}
+use Rattle.nm_reader.specs.Fault.{fault_of}
+use Rattle.nm_reader.specs.Input.{cut, cut_within, fault_of_input, model_of_input}
 use Rattle.nm_reader.specs.declared.fault.Code.{Code}
 use Rattle.nm_reader.specs.declared.fault.Code.TheVariants as code
 use Rattle.nm_reader.specs.declared.fault.Fault.{Fault}
@@ -26,6 +30,56 @@ reader_on_bytes = tt
 
 abbrev fault : ℕ → Code → Option Fault
 fault at code = Some (record { at = at; code = code })
+
+-- ---- how an input is cut
+
+-- a byte order mark, a tag, and a comment that has not ended
+cut_at_a_comment : cut true (0xEF ∷ 0xBB ∷ 0xBF ∷ codes "</a> <!--")
+    ≡ record {
+      pieces = record { piece = piece.Close (record { prefix = None; local = codes "a" }); offset = 3 }
+          ∷ record { piece = piece.Text (codes " "); offset = 7 } ∷ [];
+      end = 8;
+      rest = Unfinished;
+    }
+unfolding reader_on_bytes
+cut_at_a_comment = refl
+
+-- `&` that begins no reference
+cut_at_no_piece : cut true (codes "</a>&;")
+    ≡ record { pieces = record { piece = piece.Close (record { prefix = None; local = codes "a" }); offset = 0 } ∷ []; end = 4; rest = NoPiece }
+unfolding reader_on_bytes
+cut_at_no_piece = refl
+
+-- where more bytes follow than are read, what the last of them cut off is passed over ..
+cut_by_the_limit : cut false (codes "</a> <!--")
+    ≡ record {
+      pieces = record { piece = piece.Close (record { prefix = None; local = codes "a" }); offset = 0 }
+          ∷ record { piece = piece.Text (codes " "); offset = 4 } ∷ [];
+      end = 67108864;
+      rest = More;
+    }
+unfolding reader_on_bytes
+cut_by_the_limit = refl
+
+-- .. and their number is the fault, where nothing before it is one
+past_the_limit : fault_of (cut false (codes " <!--")) ≡ fault 67108864 code.Limit
+unfolding reader_on_bytes
+past_the_limit = refl
+
+no_piece_before_the_limit : fault_of (cut false (codes "&;")) ≡ fault 0 code.Piece
+unfolding reader_on_bytes
+no_piece_before_the_limit = refl
+
+-- ---- faults
+
+text_of_a_code : code_text code.Identifier ≡ codes "identifier"
+text_of_a_code = refl
+
+number_of_a_code : code_number code.Identifier ≡ 8
+number_of_a_code = refl
+
+last_number : code_number code.Cut ≡ 13
+last_number = refl
 
 no_bytes : fault_of_input [] ≡ fault 0 code.Cut
 unfolding reader_on_bytes

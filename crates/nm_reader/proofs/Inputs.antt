@@ -25,7 +25,7 @@ shorter bytes last piece rest spelt = by spelt.front spelt.whole spelt.ends
     by [] whole ends = absurd ends
     by (byte ∷ front) whole ends = omega (arith, ap length whole, length-append (byte ∷ front) rest)
 
-none_read : (bytes : List ℕ) (why : Unread) → piece_at bytes true ≡ Err why → NoneIsSpeltAt bytes true
+pub none_read : (bytes : List ℕ) (why : Unread) → piece_at bytes true ≡ Err why → NoneIsSpeltAt bytes true
 none_read bytes why is piece rest spelt =
     let found : ◌≡◌ {A = Read Piece} (Ok (piece, rest)) (Err why) = sym ((exact.found bytes true piece rest).1 spelt) ∙ is in
     cc

@@ -14,7 +14,7 @@ use Rattle.nm_piece.specs.declared.piece.QName.{QName}
 use Rattle.nm_statement.specs.declared.object.Object.TheVariants as object
 use Rattle.nm_reader.specs.Context.{Context, after, after_all, after_tag, beginning, entered, left_behind, tag_at}
 use Rattle.nm_reader.specs.Limits.{nothing, plus}
-use Rattle.nm_reader.specs.Meaning.{counted_by, header_link_meaning, header_meaning, header_text_meaning, identity_of, inside_of, link_counts, link_meaning, linked_by, meaning_of, model_of, object_meaning, only_inside, part_counts, property_meaning, resource_name, text_counts, told_at_end, told_by, value_of}
+use Rattle.nm_reader.specs.Meaning.{counted_by, header_link_meaning, header_meaning, header_text_meaning, identity_of, inside_of, link_counts, link_meaning, linked_by, meaning_of, model_id_of, object_meaning, only_inside, part_counts, property_meaning, resource_name, text_counts, told_at_end, told_by, value_of}
 use Rattle.nm_reader.specs.Namespaces.{Given, same_name}
 use Rattle.nm_reader.specs.Place.{description_name, place_behind}
 use Rattle.nm_reader.specs.Tag.{Tag, behind_tag, counted_by_tag, element_of, given_of, inside_of_tag, meaning_of_tag, role_of_tag, told_by_tag}
@@ -117,7 +117,7 @@ module _ (count : Counts → ℕ) (adds : (x y : Counts) → count (plus x y) �
       → weigh_by weight (told_by (meaning_of place role element attributes)) + count (place_counts (inside_of (meaning_of place role element attributes))) ≤ count (counted_by (meaning_of place role element attributes))
   meaning_counted place RootElement element attributes = omega (arith, none)
   meaning_counted place EmptyRoot element attributes = omega (arith, none)
-  meaning_counted place (ModelHeader kind) element attributes = header_counted kind (model_of attributes)
+  meaning_counted place (ModelHeader kind) element attributes = header_counted kind (model_id_of attributes)
   meaning_counted place (HeaderText property) element attributes = text_counted property (value_of resource_name attributes)
   meaning_counted place (HeaderLink property) element attributes = link_counted property (linked_by attributes)
   meaning_counted place OtherProperty element attributes = omega (arith, none)

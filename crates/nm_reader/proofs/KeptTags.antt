@@ -17,7 +17,7 @@ use Rattle.nm_statement.specs.Literal.{is_literal}
 use Rattle.nm_statement.specs.Sound.{is_sound_iri, is_sound_statement}
 use Rattle.nm_statement.specs.declared.object.Object.TheVariants as object
 use Rattle.nm_text.specs.Characters.{is_text}
-use Rattle.nm_reader.specs.Meaning.{about_name, has_short_iris, header_link_meaning, header_meaning, header_text_meaning, id_name, ident_in, identity, identity_of, inside_of, IsStatable, link_meaning, linked_by, linked_in, meaning_of, model_of, object_meaning, only_inside, part_counts, property_meaning, resource_name, told_by, uuid_in, value_of}
+use Rattle.nm_reader.specs.Meaning.{about_name, has_short_iris, header_link_meaning, header_meaning, header_text_meaning, id_name, ident_in, identity, identity_of, inside_of, IsStatable, link_meaning, linked_by, linked_in, meaning_of, model_id_of, object_meaning, only_inside, part_counts, property_meaning, resource_name, told_by, uuid_in, value_of}
 use Rattle.nm_reader.specs.Namespaces.{Given, declaration_of, given_by, same_name}
 use Rattle.nm_reader.specs.Place.{description_name, place_behind}
 use Rattle.nm_reader.specs.declared.fact.Fact.{Fact}
@@ -80,7 +80,7 @@ identity_by None None i is = absurd (let differ = is in cc)
 identity_sound : (attributes : List Given) (i : Ident) → identity_of attributes ≡ Some i → is_sound_ident i ≡ true
 identity_sound attributes i is = identity_by (value_of about_name attributes) (value_of id_name attributes) i is
 
-model_sound : (attributes : List Given) (id : ℕ) → model_of attributes ≡ Some id → is_model_id id ≡ true
+model_sound : (attributes : List Given) (id : ℕ) → model_id_of attributes ≡ Some id → is_model_id id ≡ true
 model_sound attributes id is = uuid_kept (identity_of attributes) (identity_sound attributes) id is
 
 -- what `rdf:resource` may name
@@ -198,7 +198,7 @@ pub meaning_kept : (place : Place) (role : Role) (element : QualifiedName) (attr
     → list_all is_text_given attributes ≡ true → has_short_iris (told_by (meaning_of place role element attributes)) ≡ true → IsKept (meaning_of place role element attributes)
 meaning_kept place RootElement element attributes around kept named statable texts short = record { inside = refl; told = refl }
 meaning_kept place EmptyRoot element attributes around kept named statable texts short = none_kept
-meaning_kept place (ModelHeader kind) element attributes around kept named statable texts short = header_kept kind (model_of attributes) (model_sound attributes)
+meaning_kept place (ModelHeader kind) element attributes around kept named statable texts short = header_kept kind (model_id_of attributes) (model_sound attributes)
 meaning_kept place (HeaderText property) element attributes around kept named statable texts short = text_kept property (value_of resource_name attributes)
 meaning_kept place (HeaderLink property) element attributes around kept named statable texts short = link_kept property (linked_by attributes) (linked_sound attributes)
 meaning_kept place OtherProperty element attributes around kept named statable texts short = record { inside = refl; told = refl }

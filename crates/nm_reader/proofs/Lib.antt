@@ -9,7 +9,8 @@ mod Examples
 mod InputExamples
 pub mod Scopes
 pub mod Options
-mod Inputs
+pub mod Inputs
+pub mod JudgedCuts
 pub mod Rests
 pub mod Ends
 pub mod Made

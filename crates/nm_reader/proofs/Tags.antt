@@ -7,7 +7,7 @@ use Rattle.nm_ident.specs.QualifiedName.{QualifiedName}
 use Rattle.nm_ident.specs.declared.ident.Ident.{Ident}
 use Rattle.nm_reader.specs.Context.{Context, tag_at}
 use Rattle.nm_reader.specs.Limits.{is_within_limits, plus}
-use Rattle.nm_reader.specs.Meaning.{are_allowed, header_link_meaning, header_meaning, header_text_meaning, link_meaning, object_meaning, only_inside, property_meaning, has_short_iris, inside_of, linked_by, meaning_of, identity_of, model_of, told_by, value_of, resource_name}
+use Rattle.nm_reader.specs.Meaning.{are_allowed, header_link_meaning, header_meaning, header_text_meaning, link_meaning, object_meaning, only_inside, property_meaning, has_short_iris, inside_of, linked_by, meaning_of, identity_of, model_id_of, told_by, value_of, resource_name}
 use Rattle.nm_ident.specs.Ident.{target_of}
 use Rattle.nm_ident.specs.declared.ident.Target.{Target}
 use Rattle.nm_reader.specs.Namespaces.{Given, are_spelt_once, has_declared_prefixes, has_namespace, same_name}
@@ -140,7 +140,7 @@ property_ends _ element resource = refl
 inside_ends : (place : Place) (role : Role) (element : QualifiedName) (given : List Given) → may_end (inside_of (meaning_of place role element given)) ≡ not (is_root role)
 inside_ends place RootElement element given = refl
 inside_ends place EmptyRoot element given = refl
-inside_ends place (ModelHeader kind) element given = header_ends kind (model_of given)
+inside_ends place (ModelHeader kind) element given = header_ends kind (model_id_of given)
 inside_ends place (HeaderText property) element given = text_ends property (value_of resource_name given)
 inside_ends place (HeaderLink property) element given = link_ends property (linked_by given)
 inside_ends place OtherProperty element given = refl

@@ -117,8 +117,8 @@ uuid_in (Some (Uuid id)) = Some id
 uuid_in _ = None
 
 -- a model's identity is a UUID
-abbrev pub model_of : List Given → Option ℕ
-model_of attributes = uuid_in (identity_of attributes)
+abbrev pub model_id_of : List Given → Option ℕ
+model_id_of attributes = uuid_in (identity_of attributes)
 
 abbrev pub ident_in : Option Target → Option Ident
 ident_in (Some (target.Ident ident)) = Some ident
@@ -195,7 +195,7 @@ property_meaning _ predicate resource = None
 -- what an element means in its role; nothing where its attributes make no sense there
 abbrev pub meaning_of : Place → Role → QualifiedName → List Given → Option Meaning
 meaning_of place RootElement element attributes = Some (only_inside InRoot)
-meaning_of place (ModelHeader kind) element attributes = option_map (header_meaning kind) (model_of attributes)
+meaning_of place (ModelHeader kind) element attributes = option_map (header_meaning kind) (model_id_of attributes)
 meaning_of place (HeaderText property) element attributes =
     header_text_meaning property (value_of resource_name attributes)
 meaning_of place (HeaderLink property) element attributes =

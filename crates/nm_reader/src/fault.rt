@@ -1,5 +1,5 @@
 // Why a document is refused.
-ghost use Rattle.nm_reader.specs.Code.{code_text};
+ghost use Rattle.nm_reader.specs.Code.{code_number, code_text};
 ghost use Rattle.std.specs.Prelude.{◌≡◌};
 
 /// Where a document is at fault, and why.
@@ -62,5 +62,12 @@ impl Code {
             Code::Limit => b"limit",
             Code::Cut => b"cut",
         }
+    }
+
+    /// The number of the code, from 1 for [`Code::Piece`] to 13 for [`Code::Cut`].
+    pub fn number(self) -> u8
+        ensures { result ≡ code_number self }
+    {
+        self as u8
     }
 }

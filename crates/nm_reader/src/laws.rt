@@ -10,6 +10,12 @@ pub fn documents_have_no_fault()
     ensures kept { law.StatedModelsAreKept }
 {}
 
+/// Up to 67,108,864 bytes, an input with a fault is judged on the pieces that it is cut into, and on
+/// what stands behind them.
+pub fn faults_are_judged_on_the_cutting()
+    ensures { law.FaultsAreJudgedOnTheCutting }
+{}
+
 /// The same of pieces, whatever bytes they were cut from.
 pub fn pieces_have_no_fault()
     ensures faultless { law.FaultlessPiecesAreDocuments }

@@ -26,5 +26,5 @@ mod texts;
 
 pub use error::ReadError;
 pub use fault::{Code, Fault};
-pub use laws::{documents_have_no_fault, pieces_have_no_fault};
+pub use laws::{documents_have_no_fault, faults_are_judged_on_the_cutting, pieces_have_no_fault};
 pub use reading::read;

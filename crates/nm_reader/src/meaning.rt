@@ -54,8 +54,8 @@ fn identity_of(alloc: Global, given: &[GivenAttribute<'_>]) -> Result<Option<Ide
 }
 
 /// The model that `rdf:about` or `rdf:ID` names.
-fn model_of(alloc: Global, given: &[GivenAttribute<'_>]) -> Result<Option<u128>, NoMemory>
-    ensures { IfOk result (λ id. id ≡ spec.model_of (all_seen given.now)) }
+fn model_id_of(alloc: Global, given: &[GivenAttribute<'_>]) -> Result<Option<u128>, NoMemory>
+    ensures { IfOk result (λ id. id ≡ spec.model_id_of (all_seen given.now)) }
 {
     match identity_of(alloc, given)? {
         Some(Ident::Uuid(id)) => Ok(Some(id)),
@@ -145,9 +145,9 @@ fn header(
     kind: Kind,
     given: &[GivenAttribute<'_>],
 ) -> Result<Option<Meaning>, NoMemory>
-    ensures { IfOk result (λ meaning. meaning ≡ option_map (spec.header_meaning kind) (spec.model_of (all_seen given.now))) }
+    ensures { IfOk result (λ meaning. meaning ≡ option_map (spec.header_meaning kind) (spec.model_id_of (all_seen given.now))) }
 {
-    let Some(id) = model_of(alloc, given)? else {
+    let Some(id) = model_id_of(alloc, given)? else {
         return Ok(None);
     };
     Ok(Some(Meaning {
