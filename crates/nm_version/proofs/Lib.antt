@@ -8,6 +8,8 @@ pub mod Lines
 pub mod Unnumbered
 mod Examples
 mod ExamplesOfTimelines
+mod ExamplesOfAssemblies
 pub mod Reached
 pub mod Beside
 pub mod Withdrawals
+pub mod Determined

@@ -36,3 +36,7 @@ pub record AnswersAlike (base : Full) (xs ys : List PlainProject) : Type 0 where
 -- no answer shows a filing number: live projects that differ in these alone, in the same order, answer alike
 abbrev pub FilingNumbersStayInside : Type 0
 FilingNumbersStayInside = (base : Full) (xs ys : List PlainProject) → IsLive xs → IsLive ys → map unnumbered xs ≡ map unnumbered ys → AnswersAlike base xs ys
+
+-- what is reached is determined by the bytes of its base and by its log: the base, and so the live projects too
+abbrev pub LogsDetermineWhatIsKept : Type 0
+LogsDetermineWhatIsKept = (kept other : Kept) → IsReached kept → IsReached other → kept.bytes ≡ other.bytes → kept.log ≡ other.log → kept ≡ other

@@ -1,17 +1,21 @@
+-- What the contracts of public calls say: what is kept, and commands with their refusals, ..
 pub mod Limits
 pub mod Command
-pub mod Log
 pub mod Kept
 pub mod Replay
-pub mod Missing
 pub mod Changed
 pub mod Refusal
 pub mod After
-pub mod Within
-pub mod Laws
+-- .. answers, ..
 pub mod Assembly
 pub mod Projects
 pub mod Listing
 pub mod Objects
 pub mod Timeline
+-- .. and laws
+pub mod Laws
 pub mod Withdrawal
+-- What the proofs of the code say
+pub mod Log
+pub mod Missing
+pub mod Within

@@ -13,6 +13,11 @@ pub fn filing_numbers_stay_inside()
     ensures { law.FilingNumbersStayInside }
 {}
 
+/// What a version keeps is determined by the bytes of its base and by its log.
+pub fn logs_determine_what_is_kept()
+    ensures { law.LogsDetermineWhatIsKept }
+{}
+
 /// A withdrawal that is accepted takes its project out of the live projects and leaves the base. So
 /// all is answered as if the project had not been filed, but the log and the numbers, where each
 /// command since that does not name it is accepted without it too.

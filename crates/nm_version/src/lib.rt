@@ -24,7 +24,10 @@ mod timeline;
 mod version;
 
 pub use command::{Command, Entry};
-pub use laws::{filed_projects_come_last, filing_numbers_stay_inside, withdrawals_take_away};
+pub use laws::{
+    filed_projects_come_last, filing_numbers_stay_inside, logs_determine_what_is_kept,
+    withdrawals_take_away,
+};
 pub use limits::{LARGEST_STORE, MOST_COMMITS, MOST_STEPS};
 pub use line::Line;
 pub use refusal::{Cause, Refusal};

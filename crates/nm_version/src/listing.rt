@@ -1,4 +1,5 @@
 // The log as a stream of a session.
+ghost use Rattle.nm_version.specs.After.{IsReached};
 ghost use Rattle.nm_version.specs.Listing as spec;
 ghost use Rattle.std.specs.List.{flat_map};
 ghost use Rattle.std.specs.Prelude.{◌≡◌, ◌++◌, IfOk, OnOk};
@@ -13,10 +14,13 @@ use std::alloc::Global;
 
 impl Version {
     /// The log as a stream of a session: the base, the accepted commands in order, and `end`. Ids are
-    /// in lower case, and each document is the bytes that were given.
+    /// in lower case, and each document is the bytes that were given. What the version keeps is what
+    /// these commands give, one after another, from the base.
     pub fn log(&self, alloc: Global) -> Result<Vec<u8>, NoMemory>
-        ensures { IfOk result (λ stream. stream.items ≡ spec.log_of self.now) }
+        ensures stream { IfOk result (λ stream. stream.items ≡ spec.log_of self.now) }
+        ensures reached { IsReached self.now }
     {
+        let _commands = self.number();
         let mut out = Vec::new(alloc);
         append_with_document(alloc, &mut out, &[b"base"], self.bytes())?;
         self.entries().append_to(alloc, &mut out)?;
