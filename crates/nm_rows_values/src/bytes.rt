@@ -129,6 +129,35 @@ fn a_read_source_goes_on_after_a_fault(rt: HostRuntime) {
     assert!(rt; buf[..3] == b"end"[..]);
 }
 
+/// A reader that ends at its first call, and has bytes at its second. It counts its calls.
+#[derive(Drop)]
+struct ReopenedReader {
+    calls: u32,
+}
+
+impl Read for ReopenedReader {
+    fn read(&mut self, buf: &mut [u8]) -> io::Result<usize> {
+        self.calls = self.calls.saturating_add(1);
+        if self.calls == 1 {
+            return Ok(0);
+        }
+        b"more".as_slice().read(buf)
+    }
+}
+
+/// Whether one call of the source is one call of the reader, whose end it tells.
+fn tells_the_end_once(reader: &mut ReopenedReader) -> bool {
+    let mut source = ReadSource::new(reader);
+    source.read(&mut [0; 8]) == Ok(0)
+}
+
+#[test]
+fn a_read_source_asks_once_at_the_end_of_the_input(rt: HostRuntime) {
+    let mut reader = ReopenedReader { calls: 0 };
+    assert!(rt; tells_the_end_once(&mut reader));
+    assert!(rt; reader.calls == 1);
+}
+
 /// A source of four bytes, which fails at the first call and at the third.
 fn memory_source(alloc: Global) -> Result<MemorySource, NoMemory> {
     let fails = vec![in alloc; 0, 2]?;
@@ -179,6 +208,19 @@ fn keeps_what_it_took(sink: &mut MemorySink) -> bool {
 fn a_memory_sink_keeps_what_it_took(rt: HostRuntime) -> Result<(), NoMemory> {
     let mut sink = memory_sink(rt.alloc())?;
     assert!(rt; keeps_what_it_took(&mut sink));
+    Ok(())
+}
+
+/// Whether a sink in memory takes a mebibyte, at once.
+fn does_memory_take_a_mebibyte(alloc: Global) -> Result<bool, NoMemory> {
+    let mut sink = MemorySink::new(alloc, Vec::new(alloc));
+    let text = vec![in alloc; b'x'; 1_048_576]?;
+    Ok(write_whole(&mut sink, &text) == Ok(()) && sink.bytes().len() == 1_048_576)
+}
+
+#[test]
+fn a_memory_sink_takes_a_mebibyte(rt: HostRuntime) -> Result<(), NoMemory> {
+    assert!(rt; does_memory_take_a_mebibyte(rt.alloc())?);
     Ok(())
 }
 
