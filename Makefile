@@ -1,19 +1,33 @@
 NM = crates/nm/out/nm
 EXAMPLE = examples/base-and-day.session
 
-.PHONY: demo test bench install
+.PHONY: build demo test slow bench install
 
-# Proves and builds the program where it is missing, and assembles a day of the example.
-demo: $(NM)
+# Proves what is not proved yet, and builds the program.
+build:
+	cd crates/nm && rt run -- session < ../../$(EXAMPLE) > /dev/null
+
+# Assembles a day of the example: by the built program, or where there is none by a trial run of its source.
+demo:
+ifneq ($(wildcard $(NM)),)
 	$(NM) session < $(EXAMPLE)
+else
+	@echo "$(NM) is not built yet: its source is tried instead, which takes about a minute" >&2
+	@cd crates/nm && rt try -- session < ../../$(EXAMPLE)
+	@echo "Nothing of this run was proved: it tried the source as it stands. Plain 'make' proves and builds $(NM)."
+endif
 
 $(NM):
-	cd crates/nm && rt run -- session < ../../$(EXAMPLE) > /dev/null
+	$(MAKE) build
 
 # Every proof, test and program of the crates, and then the checks of the built program from outside.
 test:
 	rt ci
 	tests/run
+
+# The checks from outside that take long.
+slow: $(NM)
+	tests/run tests/slow/*.py
 
 bench: $(NM)
 	python3 bench/reading.py

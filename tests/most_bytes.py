@@ -3,7 +3,7 @@
 The program needs about 3 GB for this.
 """
 from harness import TESTS, check, finish, run
-from models import CIM, MOST_DOCUMENT, MOST_LITERAL, Difference, Header, canonical
+from models import CIM, MOST_DOCUMENT, MOST_LITERAL, Difference, Header, canonical, uuid_text
 from plain import MOST_BYTES
 
 BASE = (TESTS / "rows/a-base-assembled/in").read_bytes()[:471]
@@ -28,10 +28,15 @@ def file(i: int, size: int) -> bytes:
 
 
 left = MOST_BYTES - BASE_BYTES - 3 * MOST_DOCUMENT
-given = (BASE + b"".join(file(i, MOST_DOCUMENT) for i in (1, 2, 3)) + file(4, left + 1) + file(5, left)
-         + file(6, 70_000) + b"summary 2027-04-01\nend\n")
-statements = BASE_STATEMENTS + 3 * len(literals(MOST_DOCUMENT)) + len(literals(left))
-wanted = (b"ok 0\nok 1\nok 2\nok 3\nrefused limit L6\nok 4\nrefused limit L6\n"
-          b"summary commits 4 projects 4 statements %d\nend 4\n" % statements)
+small = canonical(Difference(Header(7, supersedes=[5])))
+given = (BASE + b"".join(file(i, MOST_DOCUMENT) for i in (1, 2, 3)) + file(4, left + 1) + file(5, left) + file(6, 70_000)
+         + b"revise %s %d\n" % (uuid_text(5), len(small)) + small
+         + b"redate %s 2027-04-02\nsummary 2027-04-02\nwithdraw %s\n" % (uuid_text(5), uuid_text(5))
+         + file(6, 70_000) + b"summary 2027-04-02\nend\n")
+most = BASE_STATEMENTS + 3 * len(literals(MOST_DOCUMENT))
+# A command without a document is taken, and what a withdrawn project brought still counts: the log has it.
+wanted = (b"ok 0\nok 1\nok 2\nok 3\nrefused limit L6\nok 4\nrefused limit L6\nrefused limit L6\nok 5\n"
+          b"summary commits 5 projects 4 statements %d\nok 6\nrefused limit L6\nsummary commits 6 projects 3 statements %d\nend 6\n"
+          % (most + len(literals(left)), most))
 check("all document bytes, and one more", (wanted, 0), run(given))
 finish()

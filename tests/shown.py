@@ -1,13 +1,26 @@
-"""What a command of a page writes, run at the top of the repository with the built program in place of `crates/nm/out/nm`."""
+"""What the commands of a page write, with the built program in place of `crates/nm/out/nm`.
+
+They run one after another in one shell, as a reader would type them, in a folder of their own that has `examples/`. So a
+command can use what one before it named or wrote, and leaves nothing in the repository.
+"""
 import os
 import subprocess
+import tempfile
 
 from harness import NM, TESTS
 
 ROOT = TESTS.parent
+BETWEEN = "\nprintf '\\0'\n"
+
+
+def outputs(commands) -> list:
+    script = "".join(command.replace("crates/nm/out/nm", '"$NM"') + BETWEEN for command in commands)
+    with tempfile.TemporaryDirectory() as folder:
+        os.symlink(ROOT / "examples", os.path.join(folder, "examples"))
+        ended = subprocess.run(["bash", "-c", script], cwd=folder, env={**os.environ, "NM": NM}, stdout=subprocess.PIPE,
+                               text=True, timeout=300)
+    return ended.stdout.split("\0")[:len(commands)]
 
 
 def output(command: str) -> str:
-    ended = subprocess.run(["bash", "-c", command.replace("crates/nm/out/nm", '"$NM"')], cwd=ROOT,
-                           env={**os.environ, "NM": NM}, stdout=subprocess.PIPE, text=True, timeout=60)
-    return ended.stdout
+    return outputs([command])[0]
