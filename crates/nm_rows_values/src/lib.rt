@@ -22,3 +22,5 @@ mod steps;
 mod streams;
 #[cfg(test)]
 mod texts;
+#[cfg(test)]
+mod timelines;

@@ -109,3 +109,17 @@ first_free entries e es can = can.free.0
 pub others_can : (entries : List (Key × Mark)) (e : Key × Mark) (es : List (Key × Mark)) → CanAdd entries (e ∷ es) → CanAdd (insert_key entry_cmp entries e) es
 unfolding IsDistinct
 others_can entries e es can = record { apart = can.apart.1; free = still_free entries e es can.apart.0 can.free.1 }
+
+-- without the entry at its key, one can be added
+pub freed : (key : Key) (mark : Mark) (entries : List (Key × Mark)) → CanAdd (without_keys (key ∷ []) entries) ((key, mark) ∷ [])
+unfolding IsDistinct
+freed key mark entries = record { apart = (tt, tt); free = (gone entries, tt) }
+  where
+    gone : (es : List (Key × Mark)) → is_taken (without_keys (key ∷ []) es) (key, mark) ≡ false
+    gone [] = refl
+    gone (e ∷ es) = by (gone es) (eq_by_cmp key_cmp key e.0) refl
+      where
+        by : is_taken (without_keys (key ∷ []) es) (key, mark) ≡ false → (b : Bool) → eq_by_cmp key_cmp key e.0 ≡ b
+            → is_taken (cond (not (b || false)) (e ∷ without_keys (key ∷ []) es) (without_keys (key ∷ []) es)) (key, mark) ≡ false
+        by h true same = h
+        by h false same = (λ i. same i || h i)
