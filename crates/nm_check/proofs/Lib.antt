@@ -1,0 +1,6 @@
+pub mod Presence
+pub mod Named
+pub mod About
+pub mod Least
+pub mod Rising
+pub mod FirstBreak

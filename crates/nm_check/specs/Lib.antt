@@ -1,0 +1,4 @@
+pub mod Replay
+pub mod Breaks
+pub mod Timelines
+pub mod Laws

@@ -1,0 +1,8 @@
+//! The timelines of all statements of a store.
+#![tactic(auto)]
+
+mod breaks;
+mod laws;
+
+pub use breaks::Break;
+pub use laws::{first_break_is_the_least, presence_is_by_timelines};
