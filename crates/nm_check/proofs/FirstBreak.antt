@@ -4,12 +4,12 @@ use Rattle.std.specs.List.{AllByRecursion, list_any}
 use Rattle.std.specs.Option.{option_map, option_to_list}
 use Rattle.nm_check.proofs.About.{break_of, breaks_about_one, is_break_of}
 use Rattle.nm_check.proofs.Least.{first_is_least, firsts, least}
-use Rattle.nm_check.proofs.Named.{has-named_by, is_named_in}
+use Rattle.nm_check.proofs.Named.{has-named_by}
 use Rattle.nm_check.proofs.Rising.{break_cmp-total, named_breaks, or_more, rising_breaks}
 use Rattle.nm_check.specs.Breaks.{first_statement_break, least_break, lesser_break, statement_breaks}
 use Rattle.nm_check.specs.Laws.{FirstBreakIsTheLeast}
 use Rattle.nm_check.specs.Replay.{AreSteps}
-use Rattle.nm_check.specs.Timelines.{breaks_about, first_breaks_of, named_by, timeline_of}
+use Rattle.nm_check.specs.Timelines.{breaks_about, first_breaks_of, is_named_in, named_by, timeline_of}
 use Rattle.nm_check.specs.declared.breaks.Break.{Break}
 use Rattle.nm_day.specs.declared.key.Key.{Key}
 use Rattle.nm_ident.proofs.Rising.{all_weaker}

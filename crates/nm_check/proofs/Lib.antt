@@ -4,3 +4,4 @@ pub mod About
 pub mod Least
 pub mod Rising
 pub mod FirstBreak
+pub mod Edits

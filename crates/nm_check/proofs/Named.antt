@@ -7,7 +7,7 @@ use Rattle.std.specs.List.{filter}
 use Rattle.nm_check.proofs.Presence.{or_none, presence_is_by_timelines}
 use Rattle.nm_check.specs.Laws.{StatementsAreOfTimelines}
 use Rattle.nm_check.specs.Replay.{after_changes, changes_of, in_service, set_after, statements_at}
-use Rattle.nm_check.specs.Timelines.{entries_of, entry_of, is_named, named_by, named_by_steps, names_of, timeline_of}
+use Rattle.nm_check.specs.Timelines.{entries_of, entry_of, is_named, is_named_in, named_by, named_by_steps, names_of, timeline_of}
 use Rattle.nm_stage.specs.Project.{PlainStep}
 use Rattle.nm_statement.proofs.Orders.{statement_cmp-equal}
 use Rattle.nm_statement.proofs.Sets.{has-set_of, members_make_sets, rising-set_of}
@@ -18,11 +18,6 @@ use Rattle.nm_statement.specs.declared.statement.Statement.{Statement}
 use Rattle.nm_timeline.specs.Timeline.{PlainTimeline, is_by, present_after, present_at}
 
 -- ---- what is named
-
--- a statement is named by some of the steps
-abbrev pub is_named_in : List PlainStep → Statement → Bool
-is_named_in [] s = false
-is_named_in (step ∷ steps) s = is_named step.change s || is_named_in steps s
 
 or_assoc : (a b c : Bool) → ((a || b) || c) ≡ (a || (b || c))
 or_assoc true b c = refl

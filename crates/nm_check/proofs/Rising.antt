@@ -7,10 +7,9 @@ use Rattle.std.specs.List.{AllByRecursion, filter}
 use Rattle.std.specs.List.Sorted.{IsStrictlySortedBy}
 use Rattle.std.specs.Ordering.{is_eq, ordering_then}
 use Rattle.std.specs.declared.cmp.Ordering.TheVariants.{Less}
-use Rattle.nm_check.proofs.Named.{is_named_in}
 use Rattle.nm_check.specs.Breaks.{break_at, break_cmp, breaks_at, statement_breaks}
 use Rattle.nm_check.specs.Replay.{HasSets, set_after, step_cmp}
-use Rattle.nm_check.specs.Timelines.{is_named}
+use Rattle.nm_check.specs.Timelines.{is_named, is_named_in}
 use Rattle.nm_check.specs.declared.breaks.Break.{Break}
 use Rattle.nm_day.proofs.Orders.{key_cmp-total}
 use Rattle.nm_day.specs.Key.{key_cmp}

@@ -1,4 +1,5 @@
 pub mod Replay
 pub mod Breaks
 pub mod Timelines
+pub mod Edit
 pub mod Laws

@@ -1,6 +1,6 @@
 -- The timelines of all statements that a base or steps name.
 use Rattle.std.specs.Prelude.{ℕ, List, [], ◌∷◌, ◌++◌, Bool, ◌||◌, map, Option, None, Some}
-use Rattle.std.specs.List.{filter, flat_map}
+use Rattle.std.specs.List.{filter, flat_map, list_any}
 use Rattle.nm_check.specs.Breaks.{break_at}
 use Rattle.nm_check.specs.declared.breaks.Break.{Break}
 use Rattle.nm_day.specs.declared.key.Key.{Key}
@@ -18,6 +18,10 @@ mark_of change statement = record { pre = has change.pre statement; rev = has ch
 
 abbrev pub is_named : Change → Statement → Bool
 is_named change statement = has change.pre statement || (has change.rev statement || has change.fwd statement)
+
+-- whether one of the steps names the statement
+abbrev pub is_named_in : List PlainStep → Statement → Bool
+is_named_in steps statement = list_any (λ step. is_named step.change statement) steps
 
 abbrev pub entry_of : Statement → PlainStep → Key × Mark
 entry_of statement step = (step.key, mark_of step.change statement)

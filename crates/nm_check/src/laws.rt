@@ -15,3 +15,13 @@ pub fn presence_is_by_timelines()
 pub fn first_break_is_the_least()
     ensures { law.FirstBreakIsTheLeast }
 {}
+
+/// An edit of steps, each at a key of its own, edits the timelines of the statements that the steps
+/// name, and leaves all others. So where every statement fitted before, only the timelines of these
+/// have to be looked at.
+pub fn edits_touch_what_is_named()
+    ensures steps { law.EditedStepsAreSteps }
+    ensures edited { law.TimelinesAreEdited }
+    ensures stay { law.OtherTimelinesStay }
+    ensures breaks { law.OnlyTouchedTimelinesBreak }
+{}

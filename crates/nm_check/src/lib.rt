@@ -5,4 +5,4 @@ mod breaks;
 mod laws;
 
 pub use breaks::Break;
-pub use laws::{first_break_is_the_least, presence_is_by_timelines};
+pub use laws::{edits_touch_what_is_named, first_break_is_the_least, presence_is_by_timelines};

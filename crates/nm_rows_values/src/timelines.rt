@@ -1,4 +1,7 @@
 //! Timelines of single statements.
+ghost use Rattle.nm_timeline.specs.Timeline.{CanAdd, without_keys};
+ghost use Rattle.std.specs.Prelude.{[], ◌∷◌};
+
 use nm_day::{Day, Key};
 use nm_ident::NoMemory;
 use nm_timeline::{Mark, Part, Timeline};
@@ -37,11 +40,24 @@ fn key(text: &[u8], filing: u32) -> Result<Key, Fail> {
 
 /// The timeline with this entry, in place of the one at its key.
 fn with(alloc: Global, timeline: &Timeline, key: Key, mark: Mark) -> Result<Timeline, NoMemory> {
-    timeline.edited(alloc, &[key], &[(key, mark)])
+    let added = [(key, mark)];
+    put(alloc, timeline, &key, &added)
+}
+
+fn put(
+    alloc: Global,
+    timeline: &Timeline,
+    key: &Key,
+    added: &[(Key, Mark)],
+) -> Result<Timeline, NoMemory>
+    requires { CanAdd (without_keys (key.now ∷ []) timeline.now.entries) added.now }
+{
+    let removed = [*key];
+    timeline.edited(alloc, &removed, added)
 }
 
 fn without(alloc: Global, timeline: &Timeline, key: Key) -> Result<Timeline, NoMemory> {
-    timeline.edited(alloc, &[key], &[])
+    put(alloc, timeline, &key, &[])
 }
 
 /// A statement of the base that is taken away in April and added again in June.

@@ -1,5 +1,5 @@
 use Rattle.nm_timeline.proofs.Places.{freed}
 use Rattle.nm_rows_values.proofs.timelines.with.Goals as goal
 
-pub edited-requires : goal.edited-requires
-edited-requires c = freed c.args.key c.args.mark c.args.timeline.now.entries
+pub put-requires : goal.put-requires
+put-requires c = freed c.args.key c.args.mark c.args.timeline.now.entries
