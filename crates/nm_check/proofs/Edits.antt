@@ -1,10 +1,10 @@
 -- What an edit of steps makes of the timelines.
-use Rattle.std.proofs.Common.{◌≡◌, ◌∙◌, ◌<◌, ℕ, zero, suc, List, [], ◌∷◌, ◌++◌, length, get_or, Contains, Bool, true, false, ◌&&◌, ◌||◌, not, cond, map, Option, None, Some, Ordering, refl, sym, ap, subst, arith}
+use Rattle.std.proofs.Common.{◌≡◌, ◌∙◌, ◌<◌, ℕ, zero, suc, List, [], ◌∷◌, length, get_or, Contains, Bool, true, false, ◌||◌, not, cond, map, None, Some, Ordering, refl, sym, ap, subst, arith}
 use Rattle.std.proofs.lemmas.List.Kept.{IsStrictlySortedBy-filter}
 use Rattle.std.proofs.lemmas.Cmp.{on_total}
 use Rattle.std.specs.BTreeSet.{insert_key}
 use Rattle.std.specs.Cmp.{IsTotalOrder}
-use Rattle.std.specs.List.{AllByRecursion, IsDistinct, filter, find, list_any}
+use Rattle.std.specs.List.{AllByRecursion, IsDistinct, filter, find}
 use Rattle.std.specs.List.Sorted.{IsStrictlySortedBy}
 use Rattle.std.specs.Option.{option_map}
 use Rattle.std.specs.Ordering.{eq_by_cmp, is_eq, match_ordering, ordering_reverse}
@@ -13,7 +13,7 @@ use Rattle.nm_check.proofs.About.{break_of, breaks_about_one, is_break_of}
 use Rattle.nm_check.proofs.FirstBreak.{first_of_some}
 use Rattle.nm_check.proofs.Named.{no_entries}
 use Rattle.nm_check.proofs.Presence.{or_none}
-use Rattle.nm_check.proofs.Rising.{all_filter, all_map, all_so, or_more, or_first, same_itself}
+use Rattle.nm_check.proofs.Rising.{all_filter, all_map, same_itself}
 use Rattle.nm_check.specs.Breaks.{IsUnbroken, statement_breaks}
 use Rattle.nm_check.specs.Edit.{CanEdit, edited_steps, is_step_taken, keys_naming, keys_of, with_steps, without_steps}
 use Rattle.nm_check.specs.Laws.{EditedStepsAreSteps, OnlyTouchedTimelinesBreak, OtherTimelinesStay, TimelinesAreEdited}
@@ -28,7 +28,7 @@ use Rattle.nm_stage.specs.Project.{PlainStep}
 use Rattle.nm_statement.specs.Set.{has}
 use Rattle.nm_statement.specs.declared.statement.Statement.{Statement}
 use Rattle.nm_timeline.proofs.Places.{flips}
-use Rattle.nm_timeline.specs.Timeline.{edited_of, entry_cmp, first_break_from, first_break_of, has_key, with_entries, without_keys}
+use Rattle.nm_timeline.specs.Timeline.{edited_of, entry_cmp, first_break_of, has_key, with_entries, without_keys}
 use Rattle.nm_timeline.specs.declared.mark.Mark.{Mark}
 
 pub step_cmp-total : IsTotalOrder step_cmp
@@ -199,9 +199,10 @@ own_step (y ∷ ys) r order (suc n, within, at) =
 -- of each step, which of those to take away are at its key
 own_steps : (steps remove : List PlainStep) → AllByRecursion (λ r. AllByRecursion (λ x. IsOwn x r) steps) remove → AllByRecursion (λ x. AllByRecursion (IsOwn x) remove) steps
 own_steps [] remove a = tt
-own_steps (x ∷ xs) remove a =
-    (all_weaker (λ r. AllByRecursion (λ y. IsOwn y r) (x ∷ xs)) (IsOwn x) (λ r h. h.0) remove a,
-    own_steps xs remove (all_weaker (λ r. AllByRecursion (λ y. IsOwn y r) (x ∷ xs)) (λ r. AllByRecursion (λ y. IsOwn y r) xs) (λ r h. h.1) remove a))
+own_steps (x ∷ xs) remove a = (
+  all_weaker (λ r. AllByRecursion (λ y. IsOwn y r) (x ∷ xs)) (IsOwn x) (λ r h. h.0) remove a,
+  own_steps xs remove (all_weaker (λ r. AllByRecursion (λ y. IsOwn y r) (x ∷ xs)) (λ r. AllByRecursion (λ y. IsOwn y r) xs) (λ r h. h.1) remove a),
+)
 
 pub timelines_are_edited : TimelinesAreEdited
 timelines_are_edited base remove add steps s are can =

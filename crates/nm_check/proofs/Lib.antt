@@ -5,3 +5,4 @@ pub mod Least
 pub mod Rising
 pub mod FirstBreak
 pub mod Edits
+mod Examples

@@ -1,5 +1,5 @@
 -- Steps that are taken away and added.
-use Rattle.std.specs.Prelude.{◌≡◌, ℕ, List, [], ◌∷◌, Bool, false, not, map, Contains}
+use Rattle.std.specs.Prelude.{◌≡◌, List, Bool, false, not, map, Contains}
 use Rattle.std.specs.BTreeSet.{insert_key}
 use Rattle.std.specs.List.{AllByRecursion, IsDistinct, filter, fold, list_any}
 use Rattle.std.specs.Ordering.{eq_by_cmp}
