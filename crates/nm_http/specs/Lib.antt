@@ -1,1 +1,7 @@
+pub mod Call
+pub mod HttpError
+pub mod Paths
 pub mod Reply
+pub mod Routing
+pub mod Segments
+pub mod Table

@@ -2,7 +2,17 @@
 //! request, its route, and the text of a reply.
 #![tactic(auto)]
 
+mod call;
+mod error;
+mod message;
+mod paths;
 mod reply;
+mod router;
+mod segments;
 mod threads;
 
+pub use call::Route;
+pub use error::HttpError;
+pub use message::Request;
 pub use reply::{HttpReply, reply_text};
+pub use router::Routes;
