@@ -8,7 +8,7 @@ use Rattle.nm_piece.proofs.Cuttings.{exact}
 use Rattle.nm_piece.specs.Cutting.{IsCutFrom, byte_order_mark, mark_length}
 use Rattle.nm_piece.specs.Piece.{piece_at}
 use Rattle.nm_piece.specs.Reading.{Read}
-use Rattle.nm_piece.specs.Spells.{IsSpeltAt, IsUnfinished, NoneIsSpeltAt}
+use Rattle.nm_piece.specs.Spells.{IsSpeltAt, IsUnfinished}
 use Rattle.nm_piece.specs.declared.piece.Piece.{Piece}
 use Rattle.nm_piece.specs.declared.unread.Unread.{Unread}
 use Rattle.nm_piece.specs.declared.unread.Unread.TheVariants as unread

@@ -1,5 +1,5 @@
 -- Worked examples of what an assembly says of itself, and of logs, computed.
-use Rattle.std.proofs.Common.{◌≡◌, ℕ, List, [], ◌∷◌, ◌++◌, codes, None, Some, refl}
+use Rattle.std.proofs.Common.{◌≡◌, ℕ, List, [], ◌∷◌, codes, None, Some, refl}
 use Rattle.std.specs.Fmt.{digits}
 use Rattle.sha1.specs.Sha1.{compress, digest_bytes, first_words, hash_after, rounds, schedule, sha1}
 use Rattle.uuid.proofs.OnLiterals.{uuid_on_literals}
