@@ -1,5 +1,5 @@
 -- Worked examples of the definitions, computed.
-use Rattle.std.proofs.Common.{◌≡◌, ℕ, List, [], ◌∷◌, ◌++◌, codes, true, false, None, Some, refl}
+use Rattle.std.proofs.Common.{◌≡◌, [], ◌∷◌, ◌++◌, codes, true, false, None, Some, refl}
 use Rattle.std.specs.Fmt.{digits}
 use Rattle.nm_http.specs.Reply.{reply_text, first_lines, other_lines, status_line, phrase_of, line, is_status}
 

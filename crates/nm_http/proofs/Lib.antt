@@ -1,1 +1,13 @@
+pub mod Digits
 pub mod Examples
+pub mod Frames
+pub mod HeadExamples
+pub mod HeadsFound
+pub mod HeadsRead
+pub mod Lengths
+pub mod LinesRead
+pub mod Mapped
+pub mod Parsed
+pub mod Parts
+pub mod RouteExamples
+pub mod Words

@@ -1,7 +1,14 @@
 pub mod Call
+pub mod Fields
+pub mod Framing
+pub mod Head
 pub mod HttpError
+pub mod Laws
+pub mod Limits
+pub mod Lines
 pub mod Paths
 pub mod Reply
+pub mod Requests
 pub mod Routing
 pub mod Segments
 pub mod Table

@@ -1,6 +1,6 @@
 -- The route of a request, or the status with which it is refused.
-use Rattle.std.specs.Prelude.{ℕ, List, Bool, ◌&&◌, Option, None, Some, is_none, Result, Ok, Err, if◌then◌else◌}
-use Rattle.std.specs.Option.{option_map, option_and_then}
+use Rattle.std.specs.Prelude.{ℕ, List, ◌&&◌, Option, None, Some, is_none, Result, Ok, Err, if◌then◌else◌}
+use Rattle.std.specs.Option.{option_map}
 use Rattle.std.specs.Result.{result_ok}
 use Rattle.nm_day.specs.Day.{day_of}
 use Rattle.nm_ident.specs.Ident.{ident_of_id}

@@ -4,6 +4,11 @@
 
 mod call;
 mod error;
+mod fields;
+mod framing;
+mod head;
+mod laws;
+mod limits;
 mod message;
 mod paths;
 mod reply;
@@ -13,6 +18,9 @@ mod threads;
 
 pub use call::Route;
 pub use error::HttpError;
+pub use head::request;
+pub use laws::heads_are_found;
+pub use limits::{LONGEST_HEAD, MOST_FIELDS};
 pub use message::Request;
 pub use reply::{HttpReply, reply_text};
 pub use router::Routes;

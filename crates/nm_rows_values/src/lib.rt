@@ -1,11 +1,14 @@
 //! What single crates below the program do, as tests, and that they have memory enough to do it:
-//! bytes, texts, identifiers, pieces, statements, headers, days, projects and generated streams.
+//! bytes, texts, identifiers, pieces, statements, headers, days, projects, generated
+//! streams, and requests and replies of HTTP.
 #![tactic(auto)]
 
 #[cfg(test)]
 mod bytes;
 #[cfg(test)]
 mod days;
+#[cfg(test)]
+mod heads;
 #[cfg(test)]
 mod identifiers;
 #[cfg(test)]

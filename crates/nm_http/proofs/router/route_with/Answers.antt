@@ -1,9 +1,8 @@
-use Rattle.std.proofs.Common.{◌≡◌, ◌∙◌, ℕ, List, Option, None, Some, Result, Ok, Err, ap, sym, refl}
+use Rattle.std.proofs.Common.{◌≡◌, ◌∙◌, Option, None, Some, Ok, ap, sym}
 use Rattle.nm_http.specs.Routing as spec
 use Rattle.nm_http.specs.Segments as segments
 use Rattle.nm_http.specs.declared.call.Route.{Route}
 use Rattle.nm_http.specs.declared.call.Route.TheVariants as routes
-use Rattle.nm_http.specs.declared.error.HttpError.{HttpError}
 use Rattle.nm_http.proofs.router.route_with.Goals as goal
 
 -- a route whose two parameters are there

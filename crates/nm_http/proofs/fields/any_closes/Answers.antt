@@ -1,0 +1,8 @@
+use Rattle.std.proofs.Common.{◌∙◌, sym}
+use Rattle.httparse.specs.Borrowed.{header_parts}
+use Rattle.nm_http.specs.Fields.{closes}
+use Rattle.nm_http.proofs.Mapped.{list_any_map}
+use Rattle.nm_http.proofs.fields.any_closes.Goals as goal
+
+pub returns : goal.returns
+returns c = c.any_header_closes.ensures ∙ sym (list_any_map closes header_parts c.args.fields.now)
