@@ -23,7 +23,12 @@ const PYTHON_POST: &[u8] =
 const PYTHON_GET: &[u8] =
     b"GET /log HTTP/1.1\r\nHost: 127.0.0.1:44253\r\nAccept-Encoding: identity\r\n\r\n";
 
-// RFC 9112, sections 3.2.1 and 9.6, and RFC 9110, section 10.1.1.
+// The reply to the first command that a service accepts.
+
+const REPLY: &[u8] =
+    b"HTTP/1.1 200 OK\r\nContent-Type: text/plain; charset=utf-8\r\nContent-Length: 5\r\nModel-Number: 1\r\n\r\nok 1\n";
+
+// The example of RFC 9112, section 3.2.1.
 
 const ORIGIN_FORM: &[u8] = b"GET /where?q=now HTTP/1.1\r\nHost: www.example.org\r\n\r\n";
 
@@ -239,9 +244,6 @@ fn a_reply_has_its_lines_in_order(rt: HostRuntime) -> Result<(), NoMemory> {
         body: Text::of_slice(alloc, b"ok 1\n")?,
     };
     let text = reply_text(alloc, &reply)?;
-    assert!(rt;
-        text.as_slice()
-            == b"HTTP/1.1 200 OK\r\nContent-Type: text/plain; charset=utf-8\r\nContent-Length: 5\r\nModel-Number: 1\r\n\r\nok 1\n"
-    );
+    assert!(rt; text.as_slice() == REPLY);
     Ok(())
 }
