@@ -1,0 +1,5 @@
+pub mod Balance
+pub mod Change
+pub mod Node
+pub mod Pairs
+pub mod Sight

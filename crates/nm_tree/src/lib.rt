@@ -1,0 +1,7 @@
+//! Ordered maps whose versions share their nodes.
+#![tactic(auto)]
+
+mod balance;
+mod insertion;
+mod lookup;
+mod node;
