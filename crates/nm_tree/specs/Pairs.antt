@@ -37,4 +37,4 @@ module _ {K V : Type 0} (cmp : K → K → Ordering) where
 
   -- the pairs whose keys are not below the key
   abbrev pub pairs_from : K → List (K × V) → List (K × V)
-  pairs_from key = filter (λ p. not (is_gt (cmp key p.0)))
+  pairs_from key = filter (λ p. not (is_lt (cmp p.0 key)))

@@ -1,5 +1,5 @@
 -- What a branch of the tree is seen as.
-use Rattle.std.specs.Prelude.{ℕ, ◌+◌, ◌*◌, ◌^◌, ◌≤◌, ◌==◌, Bool, true, List, [], ◌∷◌, ◌++◌, length, max}
+use Rattle.std.specs.Prelude.{ℕ, ◌+◌, ◌*◌, ◌^◌, ◌<◌, ◌≤◌, ◌==◌, Bool, true, List, [], ◌∷◌, ◌++◌, length, max}
 use Rattle.nm_tree.specs.Pairs.{IsRising}
 use Rattle.std.specs.declared.cmp.Ordering.{Ordering}
 
@@ -29,3 +29,8 @@ IsShallow branch = 2 ^ branch.height ≤ (length branch.pairs + 1) * (length bra
 pub record IsFork {K V : Type 0} (cmp : K → K → Ordering) (left : Sight K V) (pair : K × V) (right : Sight K V) : Type 0 where
   pub rising : IsRising cmp (left.pairs ++ pair ∷ right.pairs)
   pub balanced : DifferByAtMost 1 left right
+
+-- it is as low as a branch of its pairs can be: its height is the number of binary digits of their number
+pub record IsFull {K V : Type 0} (branch : Sight K V) : Type 0 where
+  pub enough : length branch.pairs < 2 ^ branch.height
+  pub needed : 2 ^ branch.height ≤ max 1 (2 * length branch.pairs)

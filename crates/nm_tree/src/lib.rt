@@ -5,3 +5,7 @@ mod balance;
 mod insertion;
 mod lookup;
 mod node;
+mod removal;
+mod sorted;
+mod span;
+mod walk;

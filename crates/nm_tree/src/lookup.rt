@@ -1,5 +1,6 @@
 // The value at a key.
-ghost use Rattle.std.specs.Prelude.{◌≡◌, ◌+◌, ◌≤◌, MatchOption, None, Some};
+ghost use Rattle.std.specs.Prelude.{◌≡◌, ◌+◌, ◌≤◌};
+ghost use Rattle.std.specs.Option.{option_map};
 ghost use Rattle.nm_tree.specs.Pairs.{value_at};
 
 use crate::node::{Branch, Fork};
@@ -13,7 +14,7 @@ pub(crate) fn find<'a, K: Ord + Drop, V: Drop, L: Ledger>(
     key: &K,
     steps: &mut Steps<L>,
 ) -> Option<&'a V>
-    ensures value { MatchOption result (value_at K.cmp key.now branch.entry.now.pairs ≡ None) (λ v. value_at K.cmp key.now branch.entry.now.pairs ≡ Some v.now) }
+    ensures value { option_map (λ v. v.now) result ≡ value_at K.cmp key.now branch.entry.now.pairs }
     ensures steps { steps.new ≤ steps.old + branch.entry.now.height }
 {
     let Some(Fork {

@@ -1,5 +1,5 @@
 // The nodes of the tree, which nothing else can make or look into.
-ghost use Rattle.std.specs.Prelude.{◌≡◌, ◌+◌, IfOk, MatchOption, if◌then◌else◌, is_some};
+ghost use Rattle.std.specs.Prelude.{◌≡◌, ◌+◌, ◌<◌, IfOk, MatchBool, MatchOption, if◌then◌else◌, is_some};
 ghost use Rattle.nm_tree.specs.Pairs.{IsRising};
 ghost use Rattle.nm_tree.specs.Sight.{DifferByAtMost, IsFork, IsShallow, bare, fork_of};
 
@@ -70,6 +70,13 @@ impl<K: Ord + Drop, V: Drop> Branch<K, V> {
         ensures shallow { IsShallow self.now }
     {
         self.height
+    }
+
+    /// Whether the branch has no node.
+    pub(crate) fn is_empty(&self) -> bool
+        ensures { MatchBool result (self.now ≡ bare) (0 < self.now.height) }
+    {
+        self.node.is_none()
     }
 
     /// The same branch, with the same node.
