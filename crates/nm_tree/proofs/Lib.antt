@@ -1,5 +1,6 @@
 pub mod Around
 pub mod Depths
+pub mod Fulls
 pub mod Heights
 pub mod Rising
 pub mod Spans

@@ -23,6 +23,11 @@ module _ {X : Type 0} where
     rising_front [] m s = tt
     rising_front (x ∷ l) m s = (AllByRecursion-front _ l m s.0, rising_front l m s.1)
 
+    pub rising_back : (l m : List X) → IsStrictlySortedBy cmp (l ++ m) → IsStrictlySortedBy cmp m
+    unfolding IsStrictlySortedBy
+    rising_back [] m s = s
+    rising_back (x ∷ l) m s = rising_back l m s.1
+
     pub rising_behind : (l : List X) (k : X) (r : List X) → IsStrictlySortedBy cmp (l ++ k ∷ r) → IsStrictlySortedBy cmp r
     unfolding IsStrictlySortedBy
     rising_behind [] k r s = s.1

@@ -1,13 +1,14 @@
 -- What a rising list of pairs has in a span, by where the pair at the top of a fork lies.
-use Rattle.std.proofs.Common.{◌≡◌, ◌≢◌, ℕ, ◌≤◌, Bool, true, false, not, cond, List, [], ◌∷◌, ◌++◌, refl, sym, ap, ◌∙◌, arith}
+use Rattle.std.proofs.Common.{◌≡◌, ◌≢◌, ℕ, ◌≤◌, Bool, true, false, not, cond, List, [], ◌∷◌, ◌++◌, refl, sym, ap, ◌∙◌, append_assoc, arith}
+use Rattle.std.specs.Borrow.{Bor}
 use Rattle.std.specs.List.{AllByRecursion, filter}
 use Rattle.std.specs.Ordering.{is_eq, is_gt, is_lt, ordering_index}
 use Rattle.std.specs.declared.cmp.Ordering.{Ordering}
 use Rattle.std.specs.declared.cmp.Ordering.TheVariants.{Less, Equal, Greater}
-use Rattle.std.proofs.lemmas.List.{append-nil}
+use Rattle.std.proofs.lemmas.List.{append-nil, map-append}
 use Rattle.std.proofs.lemmas.List.Elements.{filter-append}
 use Rattle.nm_tree.specs.Pairs.{pair_cmp, IsRising}
-use Rattle.nm_tree.specs.Span.{IsMonotone, pairs_within, pairs_not_below, pairs_not_above}
+use Rattle.nm_tree.specs.Span.{IsMonotone, pairs_within, pairs_not_below, pairs_not_above, values_of}
 use Rattle.nm_tree.proofs.Around.{AllByRecursion-map, all_before, all_behind, filter_all, filter_none}
 
 filter_alike : {X : Type 0} (f g : X → Bool) (xs : List X) → AllByRecursion (λ x. f x ≡ g x) xs → filter f xs ≡ filter g xs
@@ -54,7 +55,7 @@ at_most_equal Less h = omega arith
 at_most_equal Equal h = omega arith
 at_most_equal Greater h = absurd (h refl)
 
-module _ {K V : Type 0} {cmp : K → K → Ordering} {place : K → Ordering} (rises : IsMonotone cmp place) (l : List (K × V)) (p : K × V) (r : List (K × V)) (s : IsRising cmp (l ++ p ∷ r)) where
+module _ {K V : Type 0} {cmp : K → K → Ordering} (place : K → Ordering) (rises : IsMonotone cmp place) (l : List (K × V)) (p : K × V) (r : List (K × V)) (s : IsRising cmp (l ++ p ∷ r)) where
   places_before : AllByRecursion (λ q. ordering_index (place q.0) ≤ ordering_index (place p.0)) l
   places_before = AllByRecursion-map _ _ (λ q h. rises q.0 p.0 h) l (all_before (pair_cmp cmp) l p r s)
 
@@ -108,3 +109,9 @@ module _ {K V : Type 0} {cmp : K → K → Ordering} {place : K → Ordering} (r
       filter-append _ l (p ∷ r)
       ∙ ap (λ ys. ys ++ pairs_not_above place (p ∷ r)) (filter_all _ l (AllByRecursion-map _ _ (λ q k. not_above (place q.0) (omega (arith, h, k))) l places_before))
       ∙ ap (λ b. l ++ cond b (p ∷ pairs_not_above place r) (pairs_not_above place r)) (not_above (place p.0) h)
+
+-- what was found, with what a node and its sides give behind it
+pub gathered : {X : Type 0} (old some pushed : List (Bor X)) (before behind : List X) (p : Bor X) (x : X) → pushed ≡ some ++ p ∷ [] → values_of some ≡ values_of old ++ before → p.now ≡ x → values_of pushed ++ behind ≡ values_of old ++ (before ++ x ∷ behind)
+gathered old some pushed before behind p x pushed_is some_is p_is =
+    ap (λ xs. values_of xs ++ behind) pushed_is ∙ ap (λ xs. xs ++ behind) (map-append (λ y. y.now) some (p ∷ [])) ∙ ap (λ xs. (xs ++ p.now ∷ []) ++ behind) some_is
+    ∙ append_assoc (values_of old ++ before) (p.now ∷ []) behind ∙ append_assoc (values_of old) before (p.now ∷ behind) ∙ ap (λ y. values_of old ++ (before ++ y ∷ behind)) p_is

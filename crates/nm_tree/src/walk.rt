@@ -58,12 +58,14 @@ pub(crate) fn gather_up<'a, K: Ord + Drop, V: Drop, S: Span<K>, L: Ledger>(
     else {
         return Ok(());
     };
-    if span.place(&top.0) == Ordering::Less {
-        return gather_up(right, span, found, steps);
+    match span.place(&top.0) {
+        Ordering::Less => gather_up(right, span, found, steps),
+        _ => {
+            gather_up(left, span, found, steps)?;
+            found.push(&**top)?;
+            gather_all(right, found, steps)
+        }
     }
-    gather_up(left, span, found, steps)?;
-    found.push(&**top)?;
-    gather_all(right, found, steps)
 }
 
 /// Appends the pairs of a branch that do not lie above the span.
@@ -85,12 +87,14 @@ fn gather_down<'a, K: Ord + Drop, V: Drop, S: Span<K>, L: Ledger>(
     else {
         return Ok(());
     };
-    if span.place(&top.0) == Ordering::Greater {
-        return gather_down(left, span, found, steps);
+    match span.place(&top.0) {
+        Ordering::Greater => gather_down(left, span, found, steps),
+        _ => {
+            gather_all(left, found, steps)?;
+            found.push(&**top)?;
+            gather_down(right, span, found, steps)
+        }
     }
-    gather_all(left, found, steps)?;
-    found.push(&**top)?;
-    gather_down(right, span, found, steps)
 }
 
 /// Appends all pairs of a branch.
