@@ -1,5 +1,5 @@
 // A branch of pairs that are in order already.
-ghost use Rattle.std.specs.Prelude.{◌≡◌, ◌+◌, ◌≤◌, ◌++◌, IfOk, length, vec_len};
+ghost use Rattle.std.specs.Prelude.{◌≡◌, ◌+◌, ◌≤◌, ◌++◌, IfOk, length};
 ghost use Rattle.nm_tree.specs.Pairs.{IsRising};
 ghost use Rattle.nm_tree.specs.Sight.{IsFull};
 
@@ -17,7 +17,7 @@ pub(crate) fn build<K: Ord + Drop, V: Drop, L: Ledger>(
     count: usize,
     steps: &mut Steps<L>,
 ) -> Result<Branch<K, V>, NoMemory>
-    requires enough { count ≤ vec_len pairs.old }
+    requires enough { count ≤ length pairs.old.items }
     requires rising { IsRising K.cmp pairs.old.items }
     ensures taken { IfOk result (λ branch. pairs.old.items ≡ pairs.new.items ++ branch.pairs) }
     ensures count { IfOk result (λ branch. length branch.pairs ≡ count) }
