@@ -2,5 +2,6 @@ pub mod Around
 pub mod Depths
 pub mod Fulls
 pub mod Heights
+pub mod Kept
 pub mod Rising
 pub mod Spans

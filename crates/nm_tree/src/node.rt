@@ -1,5 +1,6 @@
 // The nodes of the tree, which nothing else can make or look into.
-ghost use Rattle.std.specs.Prelude.{◌≡◌, ◌+◌, ◌<◌, IfOk, MatchBool, MatchOption, if◌then◌else◌, is_some};
+ghost use Rattle.std.specs.Prelude.{◌≡◌, ◌+◌, ◌<◌, ◌≤◌, IfOk, MatchBool, MatchOption, length, if◌then◌else◌, is_some};
+ghost use Rattle.nm_tree.specs.Depth.{depth_of};
 ghost use Rattle.nm_tree.specs.Pairs.{IsRising};
 ghost use Rattle.nm_tree.specs.Sight.{DifferByAtMost, IsFork, IsShallow, bare, fork_of};
 
@@ -70,6 +71,15 @@ impl<K: Ord + Drop, V: Drop> Branch<K, V> {
         ensures shallow { IsShallow self.now }
     {
         self.height
+    }
+
+    /// Reads what a branch keeps, for the proof of a caller.
+    pub(crate) fn read_kept(&self)
+        ensures rising { IsRising K.cmp self.now.pairs }
+        ensures depth { self.now.height ≤ depth_of (length self.now.pairs) }
+    {
+        let _height = self.height();
+        let _node = &self.node;
     }
 
     /// Whether the branch has no node.
