@@ -1,5 +1,6 @@
 pub mod Around
 pub mod Depths
+mod Examples
 pub mod Fulls
 pub mod Heights
 pub mod Kept

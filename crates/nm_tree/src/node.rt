@@ -110,7 +110,7 @@ impl<K: Ord + Drop, V: Drop> Branch<K, V> {
         ensures steps { steps.new ≡ (if is_some result then steps.old + 1 else steps.old) }
     {
         let node = self.node.as_ref()?;
-        steps.tick();
+        steps.tick(); // One step for a node that is opened.
         Some(Fork {
             left: &node.left,
             pair: &node.pair,
@@ -130,7 +130,7 @@ impl<K: Ord + Drop, V: Drop> Branch<K, V> {
         ensures fork { IfOk result (λ branch. branch ≡ fork_of left pair.value right) }
         ensures steps { steps.new ≡ steps.old + 1 }
     {
-        steps.tick();
+        steps.tick(); // One step for a node that is made, also where memory is wanting.
         let Some(height) = left.height().max(right.height()).checked_add(1) else {
             return Err(NoMemory);
         };
