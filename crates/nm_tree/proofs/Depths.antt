@@ -17,10 +17,10 @@ pub greatest_power-greatest : (bound limit h : ℕ) → h ≤ limit → 2 ^ h �
 greatest_power-greatest bound zero h low fits = low
 greatest_power-greatest bound (suc limit) h low fits =
     greatest_by h limit (leb (2 ^ suc limit) bound) (greatest_power bound limit) low (λ e. greatest_power-greatest bound limit h (next e (cases_lt h (suc limit))) fits)
-    where
-      next : leb (2 ^ suc limit) bound ≡ false → (h < suc limit) ⊎ (suc limit ≤ h) → h ≤ limit
-      next e (inl less) = omega arith
-      next e (inr more) = let same : h ≡ suc limit = omega arith in absurd (let over : bound < 2 ^ h = rw same (leb-false (2 ^ suc limit) bound e) in omega arith)
+  where
+    next : leb (2 ^ suc limit) bound ≡ false → (h < suc limit) ⊎ (suc limit ≤ h) → h ≤ limit
+    next e (inl less) = omega arith
+    next e (inr more) = let same : h ≡ suc limit = omega arith in absurd (let over : bound < 2 ^ h = rw same (leb-false (2 ^ suc limit) bound e) in omega arith)
 
 fits_by : (bound limit : ℕ) (b : Bool) (others : ℕ) → leb (2 ^ suc limit) bound ≡ b → 2 ^ others ≤ bound → 2 ^ cond b (suc limit) others ≤ bound
 fits_by bound limit true others e fits = leb-true (2 ^ suc limit) bound e

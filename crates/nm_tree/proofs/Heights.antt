@@ -1,5 +1,5 @@
 -- A balanced tree of n pairs is not high: 2 ^ height is at most (n + 1) ^ 2.
-use Rattle.std.proofs.Common.{◌≡◌, ℕ, suc, ◌+◌, ◌*◌, ◌^◌, ◌≤◌, ◌<◌, max, List, ◌∷◌, ◌++◌, length, add-one, inl, inr, arith, length-append}
+use Rattle.std.proofs.Common.{◌≡◌, ℕ, ◌+◌, ◌*◌, ◌^◌, ◌≤◌, max, ◌∷◌, ◌++◌, length, add-one, inl, inr, arith, length-append}
 use Rattle.std.proofs.Math.Nat.{max-eq_left, max-eq_right, mul-le-mul_left, two-pow-succ}
 use Rattle.std.proofs.Math.Pow.{pow_mono}
 use Rattle.std.proofs.lemmas.Bool.{cases_lt}

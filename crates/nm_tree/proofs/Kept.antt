@@ -1,5 +1,5 @@
 -- What a branch keeps, from its fields.
-use Rattle.std.proofs.Common.{◌≡◌, ℕ, Option, None, Some}
+use Rattle.std.proofs.Common.{ℕ, Option, None, Some}
 use Rattle.std.specs.List.Sorted.{IsStrictlySortedBy}
 use Rattle.std.specs.declared.alloc.Global.{Global}
 use Rattle.std.specs.declared.cmp.Ordering.{Ordering}

@@ -1,5 +1,5 @@
 -- What a rising list of pairs has in a span, by where the pair at the top of a fork lies.
-use Rattle.std.proofs.Common.{◌≡◌, ◌≢◌, ℕ, ◌≤◌, Bool, true, false, not, cond, List, [], ◌∷◌, ◌++◌, refl, sym, ap, ◌∙◌, append_assoc, arith}
+use Rattle.std.proofs.Common.{◌≡◌, ◌≤◌, Bool, true, not, cond, List, [], ◌∷◌, ◌++◌, refl, ap, ◌∙◌, append_assoc, arith}
 use Rattle.std.specs.Borrow.{Bor}
 use Rattle.std.specs.List.{AllByRecursion, filter}
 use Rattle.std.specs.Ordering.{is_eq, is_gt, is_lt, ordering_index}
@@ -84,8 +84,8 @@ module _ {K V : Type 0} {cmp : K → K → Ordering} (place : K → Ordering) (r
       filter-append _ l (p ∷ r)
       ∙ ap (λ ys. ys ++ pairs_within place (p ∷ r)) (filter_alike _ _ l (AllByRecursion-map _ _ (λ q h. within_or_below (place q.0) (rw e at h)) l places_before))
       ∙ ap (λ ys. pairs_not_below place l ++ ys)
-        (ap (λ o. cond (is_eq o) (p ∷ pairs_within place r) (pairs_within place r)) e
-        ∙ ap (λ ys. p ∷ ys) (filter_alike _ _ r (AllByRecursion-map _ _ (λ q h. within_or_above (place q.0) (rw e at h)) r places_behind)))
+      (ap (λ o. cond (is_eq o) (p ∷ pairs_within place r) (pairs_within place r)) e
+      ∙ ap (λ ys. p ∷ ys) (filter_alike _ _ r (AllByRecursion-map _ _ (λ q h. within_or_above (place q.0) (rw e at h)) r places_behind)))
 
   pub not_below-below : place p.0 ≡ Less → pairs_not_below place (l ++ p ∷ r) ≡ pairs_not_below place r
   not_below-below e =
@@ -101,7 +101,7 @@ module _ {K V : Type 0} {cmp : K → K → Ordering} (place : K → Ordering) (r
   not_above-above e =
       filter-append _ l (p ∷ r)
       ∙ ap (λ ys. pairs_not_above place l ++ ys)
-        (ap (λ o. cond (not (is_gt o)) (p ∷ pairs_not_above place r) (pairs_not_above place r)) e ∙ filter_none _ r (AllByRecursion-map _ _ (λ q h. ap (λ o. not (is_gt o)) h) r (all_above e)))
+      (ap (λ o. cond (not (is_gt o)) (p ∷ pairs_not_above place r) (pairs_not_above place r)) e ∙ filter_none _ r (AllByRecursion-map _ _ (λ q h. ap (λ o. not (is_gt o)) h) r (all_above e)))
       ∙ append-nil _
 
   pub not_above-inside : ordering_index (place p.0) ≤ 1 → pairs_not_above place (l ++ p ∷ r) ≡ l ++ p ∷ pairs_not_above place r

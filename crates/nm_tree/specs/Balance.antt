@@ -1,5 +1,5 @@
 -- What a branch becomes when it is balanced anew.
-use Rattle.std.specs.Prelude.{◌≡◌, ℕ, ◌+◌, ◌≤◌, ◌∷◌, ◌++◌, Bool, false, max}
+use Rattle.std.specs.Prelude.{◌≡◌, ◌+◌, ◌≤◌, ◌∷◌, ◌++◌, false}
 use Rattle.nm_tree.specs.Sight.{Sight, DifferByAtMost, fork_of}
 
 module _ {K V : Type 0} where

@@ -1,5 +1,5 @@
 -- How a change leaves the height of a branch.
-use Rattle.std.specs.Prelude.{◌≡◌, ℕ, ◌+◌, ◌≤◌, ◌⊎◌, Bool, false}
+use Rattle.std.specs.Prelude.{◌≡◌, ◌+◌, ◌≤◌, ◌⊎◌, false}
 use Rattle.nm_tree.specs.Sight.{Sight}
 
 module _ {K V : Type 0} where

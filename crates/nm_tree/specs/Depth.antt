@@ -1,5 +1,5 @@
 -- How many steps a way down a tree takes at most.
-use Rattle.std.specs.Prelude.{ℕ, zero, suc, ◌+◌, ◌*◌, ◌^◌, ◌<◌, ◌≤◌, if◌then◌else◌, nat_le}
+use Rattle.std.specs.Prelude.{ℕ, zero, suc, ◌+◌, ◌*◌, ◌^◌, ◌≤◌, if◌then◌else◌, nat_le}
 
 -- the greatest number, up to a limit, of which the power of two is within a bound
 abbrev pub greatest_power : ℕ → ℕ → ℕ

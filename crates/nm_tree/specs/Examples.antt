@@ -1,10 +1,10 @@
 -- What the definitions say of a few pairs.
-use Rattle.std.specs.Prelude.{◌≡◌, ℕ, None, Some, [], ◌∷◌, List, false, nat_lt, if◌then◌else◌, refl}
+use Rattle.std.specs.Prelude.{◌≡◌, ℕ, None, Some, [], ◌∷◌, List, true, false, nat_lt, if◌then◌else◌, refl}
 use Rattle.std.specs.Ordering.{nat_cmp}
 use Rattle.std.specs.declared.cmp.Ordering.{Ordering}
 use Rattle.std.specs.declared.cmp.Ordering.TheVariants.{Less, Equal, Greater}
 use Rattle.nm_tree.specs.Pairs.{value_at, with_pair, without, pairs_from}
-use Rattle.nm_tree.specs.Sight.{bare, fork_of}
+use Rattle.nm_tree.specs.Sight.{Sight, bare, fork_of}
 use Rattle.nm_tree.specs.Span.{pairs_within}
 
 abbrev three : List (ℕ × ℕ)
@@ -38,5 +38,11 @@ middle key = if nat_lt key 15 then Less else (if nat_lt key 25 then Equal else G
 a_walk_ends_with_its_span : pairs_within middle three ≡ (20, 2) ∷ []
 a_walk_ends_with_its_span = refl
 
-a_fork_is_a_level_higher : fork_of (fork_of bare (10, 1) bare) (20, 2) bare ≡ record { pairs = (10, 1) ∷ (20, 2) ∷ []; height = 2; level = false }
+abbrev low : Sight ℕ ℕ
+low = record { pairs = (10, 1) ∷ []; height = 1; level = true }
+
+abbrev high : Sight ℕ ℕ
+high = record { pairs = (10, 1) ∷ (20, 2) ∷ []; height = 2; level = false }
+
+a_fork_is_a_level_higher : fork_of low (20, 2) bare ≡ high
 a_fork_is_a_level_higher = refl

@@ -1,5 +1,5 @@
 -- Lists of pairs whose keys strictly rise, and what a change leaves of them.
-use Rattle.std.specs.Prelude.{Bool, List, ◌∷◌, ◌++◌, Option, not}
+use Rattle.std.specs.Prelude.{List, ◌∷◌, ◌++◌, Option, not}
 use Rattle.std.specs.List.{filter}
 use Rattle.std.specs.List.Sorted.{IsStrictlySortedBy}
 use Rattle.std.specs.Map.{lookup}

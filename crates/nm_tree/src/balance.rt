@@ -68,11 +68,13 @@ fn lean_left<K: Ord + Drop, V: Drop, L: Ledger>(
     ensures height { IfOk result (IsRotated left.now) }
     ensures steps { steps.new ≤ steps.old + 5 }
 {
-    let Some(Fork {
-        left: outer,
-        pair: top,
-        right: inner,
-    }) = left.open(steps)
+    let Some(
+        Fork {
+            left: outer,
+            pair: top,
+            right: inner,
+        },
+    ) = left.open(steps)
     else {
         unreachable!()
     };
@@ -97,11 +99,13 @@ fn lean_right<K: Ord + Drop, V: Drop, L: Ledger>(
     ensures height { IfOk result (IsRotated right.now) }
     ensures steps { steps.new ≤ steps.old + 5 }
 {
-    let Some(Fork {
-        left: inner,
-        pair: top,
-        right: outer,
-    }) = right.open(steps)
+    let Some(
+        Fork {
+            left: inner,
+            pair: top,
+            right: outer,
+        },
+    ) = right.open(steps)
     else {
         unreachable!()
     };
@@ -130,11 +134,13 @@ fn double<K: Ord + Drop, V: Drop, L: Ledger>(
     ensures height { IfOk result (λ branch. branch.height ≡ first.now.height + 2) }
     ensures steps { steps.new ≤ steps.old + 4 }
 {
-    let Some(Fork {
-        left,
-        pair: top,
-        right,
-    }) = middle.open(steps)
+    let Some(
+        Fork {
+            left,
+            pair: top,
+            right,
+        },
+    ) = middle.open(steps)
     else {
         unreachable!()
     };

@@ -33,11 +33,13 @@ pub(crate) fn insert_into<K: Ord + Drop, V: Drop, L: Ledger>(
     ensures steps { steps.new ≤ steps.old + (2 * branch.now.height + 5) }
     ensures few_steps { IfOk result (λ r. r.branch.height ≡ branch.now.height + 1 → steps.new ≤ steps.old + (2 * branch.now.height + 1)) }
 {
-    let Some(Fork {
-        left,
-        pair: top,
-        right,
-    }) = branch.open(steps)
+    let Some(
+        Fork {
+            left,
+            pair: top,
+            right,
+        },
+    ) = branch.open(steps)
     else {
         let branch = single(alloc, pair, steps)?;
         return Ok(Inserted {

@@ -5,5 +5,4 @@ ghost use Rattle.nm_tree.specs.Depth.{IsDepth, depth_of};
 /// `2^b <= (n + 1)^2`.
 pub fn depth_is_greatest(n: usize)
     ensures { IsDepth n (depth_of n) }
-{
-}
+{}

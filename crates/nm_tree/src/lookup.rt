@@ -17,11 +17,13 @@ pub(crate) fn find<'a, K: Ord + Drop, V: Drop, L: Ledger>(
     ensures value { option_map (λ v. v.now) result ≡ value_at K.cmp key.now branch.entry.now.pairs }
     ensures steps { steps.new ≤ steps.old + branch.entry.now.height }
 {
-    let Some(Fork {
-        left,
-        pair: top,
-        right,
-    }) = branch.open(steps)
+    let Some(
+        Fork {
+            left,
+            pair: top,
+            right,
+        },
+    ) = branch.open(steps)
     else {
         return None;
     };

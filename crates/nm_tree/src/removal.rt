@@ -29,11 +29,13 @@ fn pop_first<K: Ord + Drop, V: Drop, L: Ledger>(
     ensures height { IfOk result (λ popped. Shrinks branch.now popped.others) }
     ensures steps { steps.new ≤ steps.old + 3 * branch.now.height }
 {
-    let Some(Fork {
-        left,
-        pair: top,
-        right,
-    }) = branch.open(steps)
+    let Some(
+        Fork {
+            left,
+            pair: top,
+            right,
+        },
+    ) = branch.open(steps)
     else {
         unreachable!()
     };
@@ -80,11 +82,13 @@ pub(crate) fn remove_from<K: Ord + Drop, V: Drop, L: Ledger>(
     ensures height { IfOk result (λ found. IfSome found (Shrinks branch.now)) }
     ensures steps { steps.new ≤ steps.old + 3 * branch.now.height }
 {
-    let Some(Fork {
-        left,
-        pair: top,
-        right,
-    }) = branch.open(steps)
+    let Some(
+        Fork {
+            left,
+            pair: top,
+            right,
+        },
+    ) = branch.open(steps)
     else {
         return Ok(None);
     };

@@ -20,11 +20,13 @@ pub(crate) fn gather_within<'a, K: Ord + Drop, V: Drop, S: Span<K>, L: Ledger>(
     ensures most_steps { steps.new ≤ steps.old + (length (pairs_within (S.place span.now) branch.entry.now.pairs) + 2 * branch.entry.now.height) }
     ensures least_steps { OnOk result (steps.old + length (pairs_within (S.place span.now) branch.entry.now.pairs) ≤ steps.new) }
 {
-    let Some(Fork {
-        left,
-        pair: top,
-        right,
-    }) = branch.open(steps)
+    let Some(
+        Fork {
+            left,
+            pair: top,
+            right,
+        },
+    ) = branch.open(steps)
     else {
         return Ok(());
     };
@@ -50,11 +52,13 @@ pub(crate) fn gather_up<'a, K: Ord + Drop, V: Drop, S: Span<K>, L: Ledger>(
     ensures most_steps { steps.new ≤ steps.old + (length (pairs_not_below (S.place span.now) branch.entry.now.pairs) + branch.entry.now.height) }
     ensures least_steps { OnOk result (steps.old + length (pairs_not_below (S.place span.now) branch.entry.now.pairs) ≤ steps.new) }
 {
-    let Some(Fork {
-        left,
-        pair: top,
-        right,
-    }) = branch.open(steps)
+    let Some(
+        Fork {
+            left,
+            pair: top,
+            right,
+        },
+    ) = branch.open(steps)
     else {
         return Ok(());
     };
@@ -79,11 +83,13 @@ fn gather_down<'a, K: Ord + Drop, V: Drop, S: Span<K>, L: Ledger>(
     ensures most_steps { steps.new ≤ steps.old + (length (pairs_not_above (S.place span.now) branch.entry.now.pairs) + branch.entry.now.height) }
     ensures least_steps { OnOk result (steps.old + length (pairs_not_above (S.place span.now) branch.entry.now.pairs) ≤ steps.new) }
 {
-    let Some(Fork {
-        left,
-        pair: top,
-        right,
-    }) = branch.open(steps)
+    let Some(
+        Fork {
+            left,
+            pair: top,
+            right,
+        },
+    ) = branch.open(steps)
     else {
         return Ok(());
     };
@@ -107,11 +113,13 @@ pub(crate) fn gather_all<'a, K: Ord + Drop, V: Drop, L: Ledger>(
     ensures most_steps { steps.new ≤ steps.old + length branch.entry.now.pairs }
     ensures least_steps { OnOk result (steps.old + length branch.entry.now.pairs ≤ steps.new) }
 {
-    let Some(Fork {
-        left,
-        pair: top,
-        right,
-    }) = branch.open(steps)
+    let Some(
+        Fork {
+            left,
+            pair: top,
+            right,
+        },
+    ) = branch.open(steps)
     else {
         return Ok(());
     };

@@ -1,5 +1,5 @@
-use Rattle.std.proofs.Common.{◌≡◌, ◌∷◌, ◌++◌, ap, subst, sym, arith, rules}
-use Rattle.nm_tree.specs.Pairs.{IsRising, pair_cmp}
+use Rattle.std.proofs.Common.{ap, subst, arith}
+use Rattle.nm_tree.specs.Pairs.{IsRising}
 use Rattle.nm_tree.proofs.Rising.{regroup_double, rising_behind, rising_inner_left, rising_inner_right}
 use Rattle.nm_tree.proofs.balance.double.Goals as goal
 

@@ -1,5 +1,5 @@
-use Rattle.std.proofs.Common.{◌≡◌, ◌∷◌, ◌++◌, ap, subst, arith, rules}
-use Rattle.nm_tree.specs.Pairs.{IsRising, pair_cmp}
+use Rattle.std.proofs.Common.{ap, subst, arith}
+use Rattle.nm_tree.specs.Pairs.{IsRising}
 use Rattle.nm_tree.proofs.Rising.{regroup, rising_inner_right}
 use Rattle.nm_tree.proofs.balance.lean_left.Goals as goal
 

@@ -1,6 +1,6 @@
-use Rattle.std.proofs.Common.{◌≡◌, ◌∷◌, ◌++◌, ap, subst, sym, arith, rules}
+use Rattle.std.proofs.Common.{ap, subst, sym, arith}
 use Rattle.std.proofs.lemmas.Result.{IfOk-weaker}
-use Rattle.nm_tree.specs.Pairs.{IsRising, pair_cmp}
+use Rattle.nm_tree.specs.Pairs.{IsRising}
 use Rattle.nm_tree.proofs.Rising.{regroup, rising_inner_left, rotated_left}
 use Rattle.nm_tree.proofs.balance.lean_right.Goals as goal
 

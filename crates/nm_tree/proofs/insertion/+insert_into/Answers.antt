@@ -1,7 +1,6 @@
-use Rattle.std.proofs.Common.{◌≡◌, ◌∷◌, ◌++◌, ap, sym, ◌∙◌, subst, arith}
+use Rattle.std.proofs.Common.{◌≡◌, ◌∷◌, ◌++◌, ap, sym, ◌∙◌, subst}
 use Rattle.std.specs.declared.cmp.Ordering.TheVariants.{Less, Equal, Greater}
 use Rattle.nm_tree.specs.Pairs.{IsRising, with_pair}
-use Rattle.nm_tree.specs.Sight.{IsFork}
 use Rattle.nm_tree.proofs.Around.{with_pair-left, with_pair-middle, with_pair-right, rising-with_pair}
 use Rattle.nm_tree.proofs.insertion.+insert_into.Goals as goal
 

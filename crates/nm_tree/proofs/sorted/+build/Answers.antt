@@ -21,7 +21,7 @@ make-requires g t c =
     let near : length c.in_ok-right.right.pairs ≤ length c.in_ok-left.left.pairs + 1 = omega (arith, c.in_ok-left.ensures.count, c.in_ok-right.ensures.count) in
     let sides = full_sides c.in_ok-left.left c.in-Some.pair c.in_ok-right.right c.in_ok-left.ensures.full c.in_ok-right.ensures.full low near in
     let all = c.in_ok-right.ensures.taken ∙ ap (λ xs. xs ++ c.in_ok-right.right.pairs) c.in-Some.ensures.items ∙ ap (λ xs. (xs ++ c.in-Some.pair ∷ []) ++ c.in_ok-right.right.pairs) c.in_ok-left.ensures.taken
-        ∙ append_assoc (c.build-2.new.pairs.items ++ c.in_ok-left.left.pairs) (c.in-Some.pair ∷ []) c.in_ok-right.right.pairs ∙ append_assoc c.build-2.new.pairs.items c.in_ok-left.left.pairs (c.in-Some.pair ∷ c.in_ok-right.right.pairs) in
+    ∙ append_assoc (c.build-2.new.pairs.items ++ c.in_ok-left.left.pairs) (c.in-Some.pair ∷ []) c.in_ok-right.right.pairs ∙ append_assoc c.build-2.new.pairs.items c.in_ok-left.left.pairs (c.in-Some.pair ∷ c.in_ok-right.right.pairs) in
     let pair_is : c.in_ok-new.field-0.value ≡ c.in-Some.pair = c.in_ok-new.ensures.ok in
     rw pair_is (record { rising = rising_back (pair_cmp g.K.Ord.cmp) c.build-2.new.pairs.items (c.in_ok-left.left.pairs ++ c.in-Some.pair ∷ c.in_ok-right.right.pairs) (subst (IsRising g.K.Ord.cmp) all c.requires.rising); balanced = sides })
 

@@ -1,5 +1,4 @@
-use Rattle.std.proofs.Common.{◌≡◌, ◌+◌, max, arith, rules}
-use Rattle.nm_tree.specs.Sight.{IsFork, IsShallow, fork_of}
+use Rattle.std.proofs.Common.{rules}
 use Rattle.nm_tree.proofs.Heights.{IsShallow-fork_of}
 use Rattle.nm_tree.proofs.node.Branch.make.Goals as goal
 

@@ -1,4 +1,4 @@
-use Rattle.std.proofs.Common.{◌≡◌, refl, ap, sym, ◌∙◌, length, arith}
+use Rattle.std.proofs.Common.{refl, ap, length, arith}
 use Rattle.nm_tree.specs.Depth.{depth_of}
 use Rattle.nm_tree.proofs.tree.Tree.insert.Goals as goal
 
