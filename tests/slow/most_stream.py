@@ -3,7 +3,7 @@ decides whether it was cut (7), was too much (8), or was read to its `end`.
 
 The streams come through a pipe and are not kept: 63 bases of the most bytes that a document may have, each refused at its
 first byte, so that the session has no base and takes another. What stands behind them is chosen byte by byte. Each stream
-takes some seconds and the memory of one document.
+takes the memory of one document, and as long as four billion bytes take to go through a pipe.
 """
 import subprocess
 import threading
