@@ -1,5 +1,5 @@
 //! What single crates below the program do, as tests, and that they have memory enough to do it:
-//! bytes, texts, identifiers, pieces, statements, headers, days, projects, generated
+//! bytes, texts, identifiers, pieces, statements, headers, days, projects, timelines, trees, generated
 //! streams, and requests and replies of HTTP.
 #![tactic(auto)]
 
@@ -27,3 +27,5 @@ mod streams;
 mod texts;
 #[cfg(test)]
 mod timelines;
+#[cfg(test)]
+mod trees;
