@@ -1,4 +1,4 @@
--- Worked examples of heads, computed: what curl and the `http.client` of Python send, and RFC 9112.
+-- Worked examples of heads, computed: those of RFC 9112 and RFC 9110, and heads at the edges of the rules.
 use Rattle.std.proofs.Common.{◌≡◌, ◌∷◌, ◌++◌, [], ℕ, List, None, Some, Ok, Err, true, false, codes, refl}
 use Rattle.std.specs.Str.{chars, is_utf8}
 use lib.Utf8.{encode}
@@ -20,18 +20,31 @@ origin_form : request_of (codes "GET /where?q=now HTTP/1.1" ++ crlf ++ codes "Ho
 unfolding size_refusal head_of request_by is_named httparse_on_literals chars is_utf8 encode
 origin_form = refl
 
--- curl of a file with -T
-from_curl : request_of (codes "PUT /project/1 HTTP/1.1" ++ crlf ++ codes "Host: 127.0.0.1:8080" ++ crlf ++ codes "Accept: */*" ++ crlf
-    ++ codes "Content-Length: 2000000" ++ crlf ++ codes "Expect: 100-continue" ++ crlf ++ crlf)
-    ≡ Ok (record { method = codes "PUT"; path = codes "/project/1"; length = Some 2000000; close = false; expect = true })
-unfolding size_refusal head_of request_by is_named length_of httparse_on_literals chars is_utf8 encode
-from_curl = refl
+-- RFC 9112, sections 3.2.2 to 3.2.4: targets that do not begin with a slash
+absolute_form : request_of (codes "GET http://www.example.org/pub/WWW/TheProject.html HTTP/1.1" ++ crlf ++ codes "Host: www.example.org" ++ crlf ++ crlf)
+    ≡ Err (Status 400)
+unfolding size_refusal head_of httparse_on_literals chars is_utf8 encode
+absolute_form = refl
 
--- the `http.client` of Python
-from_python : request_of (codes "GET /log HTTP/1.1" ++ crlf ++ codes "Host: 127.0.0.1:8080" ++ crlf ++ codes "Accept-Encoding: identity" ++ crlf ++ crlf)
-    ≡ Ok (record { method = codes "GET"; path = codes "/log"; length = None; close = false; expect = false })
+authority_form : request_of (codes "CONNECT www.example.com:80 HTTP/1.1" ++ crlf ++ codes "Host: www.example.com" ++ crlf ++ crlf) ≡ Err (Status 400)
+unfolding size_refusal head_of httparse_on_literals chars is_utf8 encode
+authority_form = refl
+
+asterisk_form : request_of (codes "OPTIONS * HTTP/1.1" ++ crlf ++ codes "Host: www.example.org:8001" ++ crlf ++ crlf) ≡ Err (Status 400)
+unfolding size_refusal head_of httparse_on_literals chars is_utf8 encode
+asterisk_form = refl
+
+-- RFC 9110, section 10.1.1
+expecting : request_of (codes "PUT /somewhere/fun HTTP/1.1" ++ crlf ++ codes "Host: origin.example.com" ++ crlf ++ codes "Content-Type: video/h264" ++ crlf
+    ++ codes "Content-Length: 1234567890987" ++ crlf ++ codes "Expect: 100-continue" ++ crlf ++ crlf)
+    ≡ Ok (record { method = codes "PUT"; path = codes "/somewhere/fun"; length = Some 1234567890987; close = false; expect = true })
+unfolding size_refusal head_of request_by is_named length_of httparse_on_literals chars is_utf8 encode
+expecting = refl
+
+-- RFC 9112, section 6.1
+in_chunks : request_of (codes "POST / HTTP/1.1" ++ crlf ++ codes "Transfer-Encoding: gzip, chunked" ++ crlf ++ crlf) ≡ Err (Status 501)
 unfolding size_refusal head_of request_by is_named httparse_on_literals chars is_utf8 encode
-from_python = refl
+in_chunks = refl
 
 -- an empty line may stand in front, and a line may end with LF alone
 lenient : request_of (crlf ++ codes "GET / HTTP/1.0" ++ 10 ∷ [] ++ codes "Host: a" ++ crlf ++ crlf)
@@ -47,10 +60,6 @@ ends_sooner = refl
 no_request : request_of (crlf ++ crlf) ≡ Err (Status 400)
 unfolding size_refusal head_of httparse_on_literals chars is_utf8 encode
 no_request = refl
-
-host_and_port : request_of (codes "CONNECT a:80 HTTP/1.1" ++ crlf ++ crlf) ≡ Err (Status 400)
-unfolding size_refusal head_of httparse_on_literals chars is_utf8 encode
-host_and_port = refl
 
 -- ---- where a head ends
 
@@ -77,7 +86,8 @@ signed_length : request_by (codes "POST") (codes "/") 1 (one_field (codes "Conte
 unfolding request_by is_named length_of
 signed_length = refl
 
-listed_length : request_by (codes "POST") (codes "/") 1 (one_field (codes "Content-Length") (codes "5, 5")) ≡ Err (Status 400)
+-- RFC 9110, section 8.6, lets a recipient take it
+listed_length : request_by (codes "POST") (codes "/") 1 (one_field (codes "Content-Length") (codes "42, 42")) ≡ Err (Status 400)
 unfolding request_by is_named length_of
 listed_length = refl
 

@@ -1,3 +1,4 @@
+pub mod ClientExamples
 pub mod Digits
 pub mod Examples
 pub mod Frames

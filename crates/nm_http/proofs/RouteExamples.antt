@@ -61,3 +61,14 @@ wrong_method : route_of (record { method = codes "PUT"; path = codes "/projects"
     ≡ Err (Status 405)
 unfolding form_of with_path matchit_on_literals chars is_utf8 encode
 wrong_method = refl
+
+-- 411 comes before the 404 of a bad day
+no_length : route_of (record { method = codes "POST"; path = codes "/projects/2027-02-29"; length = None; close = false; expect = false })
+    ≡ Err (Status 411)
+unfolding form_of with_path matchit_on_literals chars is_utf8 encode
+no_length = refl
+
+bad_day : route_of (record { method = codes "POST"; path = codes "/projects/2027-02-29"; length = Some 1; close = false; expect = false })
+    ≡ Err (Status 404)
+unfolding form_of with_path route_with is_day matchit_on_literals chars is_utf8 encode
+bad_day = refl

@@ -1,36 +1,29 @@
-//! Heads of requests, as clients sent them, their routes, and replies.
-use nm_http::{HttpError, HttpReply, Request, Route, Routes, reply_text, request};
+//! Heads of requests, as clients sent them and as RFC 9112 shows them, and replies.
+use crate::client_heads as clients;
+use nm_http::{HttpError, HttpReply, Request, reply_text, request};
 use nm_ident::{NoMemory, Text};
 use std::alloc::Global;
 
-// What clients sent to a listener on 127.0.0.1: curl 7.88.1, and `http.client` of Python 3.
+// The examples of RFC 9112, sections 3.2.1 to 3.2.4, and of RFC 9110, section 10.1.1. A target that does not
+// begin with `/` is not taken.
 
-const CURL_GET: &[u8] =
-    b"GET /projects HTTP/1.1\r\nHost: 127.0.0.1:44253\r\nUser-Agent: curl/7.88.1\r\nAccept: */*\r\n\r\n";
+const ORIGIN_FORM: &[u8] = b"GET /where?q=now HTTP/1.1\r\nHost: www.example.org\r\n\r\n";
 
-const CURL_POST: &[u8] =
-    b"POST /projects/2027-04-01 HTTP/1.1\r\nHost: 127.0.0.1:44253\r\nUser-Agent: curl/7.88.1\r\nAccept: */*\r\nContent-Length: 20\r\nContent-Type: application/x-www-form-urlencoded\r\n\r\n";
+const ABSOLUTE_FORM: &[u8] =
+    b"GET http://www.example.org/pub/WWW/TheProject.html HTTP/1.1\r\nHost: www.example.org\r\n\r\n";
 
-const CURL_DELETE: &[u8] =
-    b"DELETE /project/30000000-0000-4000-8000-000000000001 HTTP/1.1\r\nHost: 127.0.0.1:44253\r\nUser-Agent: curl/7.88.1\r\nAccept: */*\r\n\r\n";
+const AUTHORITY_FORM: &[u8] =
+    b"CONNECT www.example.com:80 HTTP/1.1\r\nHost: www.example.com\r\n\r\n";
 
-const CURL_PUT: &[u8] =
-    b"PUT /project/30000000-0000-4000-8000-000000000001 HTTP/1.1\r\nHost: 127.0.0.1:44253\r\nUser-Agent: curl/7.88.1\r\nAccept: */*\r\nContent-Length: 2000000\r\nExpect: 100-continue\r\n\r\n";
+const ASTERISK_FORM: &[u8] = b"OPTIONS * HTTP/1.1\r\nHost: www.example.org:8001\r\n\r\n";
 
-const PYTHON_POST: &[u8] =
-    b"POST /projects/2027-04-01 HTTP/1.1\r\nHost: 127.0.0.1:44253\r\nAccept-Encoding: identity\r\nContent-Length: 7\r\n\r\n";
-
-const PYTHON_GET: &[u8] =
-    b"GET /log HTTP/1.1\r\nHost: 127.0.0.1:44253\r\nAccept-Encoding: identity\r\n\r\n";
+const EXPECTING: &[u8] =
+    b"PUT /somewhere/fun HTTP/1.1\r\nHost: origin.example.com\r\nContent-Type: video/h264\r\nContent-Length: 1234567890987\r\nExpect: 100-continue\r\n\r\n";
 
 // The reply to the first command that a service accepts.
 
 const REPLY: &[u8] =
     b"HTTP/1.1 200 OK\r\nContent-Type: text/plain; charset=utf-8\r\nContent-Length: 5\r\nModel-Number: 1\r\n\r\nok 1\n";
-
-// The example of RFC 9112, section 3.2.1.
-
-const ORIGIN_FORM: &[u8] = b"GET /where?q=now HTTP/1.1\r\nHost: www.example.org\r\n\r\n";
 
 /// What is read of a head, or the status with which it is refused.
 fn told(alloc: Global, head: &[u8]) -> Result<String, NoMemory> {
@@ -41,13 +34,27 @@ fn told(alloc: Global, head: &[u8]) -> Result<String, NoMemory> {
     }
 }
 
+/// The method, the path, the length or `-`, whether the connection ends, and whether the client waits.
 fn told_request(alloc: Global, request: &Request) -> Result<String, NoMemory> {
     let method = request.method.as_str();
-    let length = match request.length {
-        Some(length) => length,
-        None => 0,
-    };
-    format!(in alloc; "{method} {length} {} {}", request.close, request.expect)
+    let path = text_of(&request.path);
+    match request.length {
+        Some(length) => {
+            format!(in alloc;
+                "{method} {path} {length} {} {}",
+                request.close, request.expect
+            )
+        }
+        None => format!(in alloc; "{method} {path} - {} {}", request.close, request.expect),
+    }
+}
+
+/// The text, or nothing where it is not UTF-8.
+fn text_of(text: &Text) -> &str {
+    match str::from_utf8(text.as_slice()) {
+        Ok(text) => text,
+        Err(_) => "",
+    }
 }
 
 fn is_told(alloc: Global, head: &[u8], due: &str) -> Result<bool, NoMemory> {
@@ -55,15 +62,91 @@ fn is_told(alloc: Global, head: &[u8], due: &str) -> Result<bool, NoMemory> {
 }
 
 #[test]
-fn heads_of_clients_are_read(rt: HostRuntime) -> Result<(), NoMemory> {
+fn heads_of_curl_are_read(rt: HostRuntime) -> Result<(), NoMemory> {
     let alloc = rt.alloc();
-    assert!(rt; is_told(alloc, CURL_GET, "GET 0 false false")?);
-    assert!(rt; is_told(alloc, CURL_POST, "POST 20 false false")?);
-    assert!(rt; is_told(alloc, CURL_DELETE, "DELETE 0 false false")?);
-    assert!(rt; is_told(alloc, CURL_PUT, "PUT 2000000 false true")?);
-    assert!(rt; is_told(alloc, PYTHON_POST, "POST 7 false false")?);
-    assert!(rt; is_told(alloc, PYTHON_GET, "GET 0 false false")?);
-    assert!(rt; is_told(alloc, ORIGIN_FORM, "GET 0 false false")?);
+    let cases: [(&[u8], &str); 12] = [
+        (clients::CURL_GET, "GET /projects - false false"),
+        (clients::CURL_GET_VERSION_1_0, "GET /log - true false"),
+        (clients::CURL_GET_THAT_CLOSES, "GET /log - true false"),
+        (clients::CURL_HEAD, "HEAD /log - false false"),
+        (clients::CURL_OPTIONS, "400"),
+        (clients::CURL_TARGET_WITHOUT_SLASH, "400"),
+        (
+            clients::CURL_POST,
+            "POST /projects/2027-04-01 1078 false false",
+        ),
+        (
+            clients::CURL_POST_WITHOUT_LENGTH,
+            "POST /projects/2027-02-29 - false false",
+        ),
+        (
+            clients::CURL_PUT,
+            "PUT /project/30000000-0000-4000-8000-000000000001 2000000 false true",
+        ),
+        (clients::CURL_PUT_IN_CHUNKS, "501"),
+        (
+            clients::CURL_PUT_DAY,
+            "PUT /project/30000000-0000-4000-8000-000000000001/day/2027-05-01 - false false",
+        ),
+        (
+            clients::CURL_DELETE,
+            "DELETE /project/30000000-0000-4000-8000-000000000001 - false false",
+        ),
+    ];
+    for (head, due) in cases {
+        assert!(rt; is_told(alloc, head, due)?, "{due}");
+    }
+    Ok(())
+}
+
+#[test]
+fn heads_of_python_and_chromium_are_read(rt: HostRuntime) -> Result<(), NoMemory> {
+    let alloc = rt.alloc();
+    let cases: [(&[u8], &str); 9] = [
+        (clients::PYTHON_GET, "GET /log - false false"),
+        (
+            clients::PYTHON_GET_BY_URLLIB,
+            "GET /timeline/_20000000-0000-4000-8000-000000000001 - true false",
+        ),
+        (
+            clients::PYTHON_POST,
+            "POST /projects/2027-04-01 1078 false false",
+        ),
+        (
+            clients::PYTHON_PUT_DAY,
+            "PUT /project/30000000-0000-4000-8000-000000000001/day/2027-05-01 0 false false",
+        ),
+        (clients::PYTHON_PUT_IN_CHUNKS, "501"),
+        (clients::CHROMIUM_PAGE, "GET /log - false false"),
+        (clients::CHROMIUM_ICON, "GET /favicon.ico - false false"),
+        (
+            clients::CHROMIUM_POST,
+            "POST /projects/2027-04-01 4 false false",
+        ),
+        (
+            clients::CHROMIUM_DELETE,
+            "DELETE /project/30000000-0000-4000-8000-000000000001 - false false",
+        ),
+    ];
+    for (head, due) in cases {
+        assert!(rt; is_told(alloc, head, due)?, "{due}");
+    }
+    Ok(())
+}
+
+#[test]
+fn heads_of_the_standard_are_read(rt: HostRuntime) -> Result<(), NoMemory> {
+    let alloc = rt.alloc();
+    let cases: [(&[u8], &str); 5] = [
+        (ORIGIN_FORM, "GET /where?q=now - false false"),
+        (ABSOLUTE_FORM, "400"),
+        (AUTHORITY_FORM, "400"),
+        (ASTERISK_FORM, "400"),
+        (EXPECTING, "PUT /somewhere/fun 1234567890987 false true"),
+    ];
+    for (head, due) in cases {
+        assert!(rt; is_told(alloc, head, due)?, "{due}");
+    }
     Ok(())
 }
 
@@ -73,23 +156,23 @@ fn fields_are_judged(rt: HostRuntime) -> Result<(), NoMemory> {
     let cases: [(&[u8], &str); 12] = [
         (
             b"GET / HTTP/1.0\r\nExpect: 100-continue\r\n\r\n",
-            "GET 0 true false",
+            "GET / - true false",
         ),
         (
             b"GET / HTTP/1.1\r\nConnection: keep-alive, close\r\n\r\n",
-            "GET 0 true false",
+            "GET / - true false",
         ),
         (
             b"GET / HTTP/1.1\r\nCONNECTION: closed\r\n\r\n",
-            "GET 0 false false",
+            "GET / - false false",
         ),
         (
             b"PUT / HTTP/1.1\r\nexpect: 100-CONTINUE\r\n\r\n",
-            "PUT 0 false true",
+            "PUT / - false true",
         ),
         (
             b"PUT / HTTP/1.1\r\nContent-Length: 5\r\ncontent-length: 05\r\n\r\n",
-            "PUT 5 false false",
+            "PUT / 5 false false",
         ),
         (
             b"PUT / HTTP/1.1\r\nContent-Length: 5\r\nContent-Length: 6\r\n\r\n",
@@ -103,7 +186,7 @@ fn fields_are_judged(rt: HostRuntime) -> Result<(), NoMemory> {
         ),
         (
             b"PUT / HTTP/1.1\r\nContent-Length: 9999999999999999999\r\n\r\n",
-            "PUT 9999999999999999999 false false",
+            "PUT / 9999999999999999999 false false",
         ),
         (
             b"PUT / HTTP/1.1\r\nTransfer-Encoding:\r\nContent-Length: x\r\n\r\n",
@@ -140,94 +223,23 @@ fn head_of_fields(alloc: Global, count: usize, field: &[u8]) -> Result<Vec<u8>, 
 #[test]
 fn large_heads_are_refused(rt: HostRuntime) -> Result<(), NoMemory> {
     let alloc = rt.alloc();
-    assert!(rt; is_told(alloc, &head_of_length(alloc, 16_384)?, "GET 0 false false")?);
+    assert!(rt;
+        is_told(
+            alloc,
+            &head_of_length(alloc, 16_384)?,
+            "GET / - false false"
+        )?
+    );
     assert!(rt; is_told(alloc, &head_of_length(alloc, 16_385)?, "431")?);
     assert!(rt;
         is_told(
             alloc,
             &head_of_fields(alloc, 64, b"A: a\r\n")?,
-            "GET 0 false false"
+            "GET / - false false"
         )?
     );
     assert!(rt; is_told(alloc, &head_of_fields(alloc, 65, b"A: a\r\n")?, "431")?);
     assert!(rt; is_told(alloc, &head_of_fields(alloc, 33, b"A: a\nB: b\r\n")?, "400")?);
-    Ok(())
-}
-
-/// The route of a head, or the status with which it is refused.
-fn routed(alloc: Global, routes: &Routes, head: &[u8]) -> Result<Route, HttpError> {
-    let request = request(alloc, head)?;
-    routes.route(alloc, &request)
-}
-
-fn is_status(answer: Result<Route, HttpError>, due: u16) -> bool {
-    match answer {
-        Ok(_) => false,
-        Err(HttpError::Status(status)) => status == due,
-        Err(HttpError::NoMemory) => false,
-    }
-}
-
-#[test]
-fn requests_of_clients_find_their_routes(rt: HostRuntime) -> Result<(), NoMemory> {
-    let alloc = rt.alloc();
-    let routes = Routes::new(alloc)?;
-    assert!(rt; matches!(routed(alloc, &routes, CURL_GET), Ok(Route::Projects)));
-    assert!(rt; matches!(routed(alloc, &routes, CURL_POST), Ok(Route::File { .. })));
-    assert!(rt;
-        matches!(
-            routed(alloc, &routes, CURL_DELETE),
-            Ok(Route::Withdraw { .. })
-        )
-    );
-    assert!(rt; matches!(routed(alloc, &routes, CURL_PUT), Ok(Route::Revise { .. })));
-    assert!(rt; matches!(routed(alloc, &routes, PYTHON_GET), Ok(Route::Log)));
-    Ok(())
-}
-
-#[test]
-fn other_requests_have_no_route(rt: HostRuntime) -> Result<(), NoMemory> {
-    let alloc = rt.alloc();
-    let routes = Routes::new(alloc)?;
-    let cases: [(&[u8], u16); 8] = [
-        (b"GET /projects/ HTTP/1.1\r\n\r\n", 404),
-        (b"GET /log?all HTTP/1.1\r\n\r\n", 404),
-        (b"GET /assembly/2027-02-29 HTTP/1.1\r\n\r\n", 404),
-        (b"PUT /project//day/2027-04-01 HTTP/1.1\r\n\r\n", 404),
-        (b"DELETE /projects HTTP/1.1\r\n\r\n", 405),
-        (b"get /log HTTP/1.1\r\n\r\n", 405),
-        (b"POST /projects/2027-02-29 HTTP/1.1\r\n\r\n", 411),
-        (b"PUT /project/x HTTP/1.1\r\n\r\n", 411),
-    ];
-    for (head, due) in cases {
-        assert!(rt; is_status(routed(alloc, &routes, head), due), "{due}");
-    }
-    Ok(())
-}
-
-/// The methods that are told of a request's path, or `-`.
-fn allowed(alloc: Global, routes: &Routes, head: &[u8]) -> Result<Text, HttpError> {
-    let request = request(alloc, head)?;
-    match routes.allow(alloc, &request)? {
-        Some(methods) => Ok(methods),
-        None => Ok(Text::of_slice(alloc, b"-")?),
-    }
-}
-
-fn is_allowed(alloc: Global, routes: &Routes, head: &[u8], due: &[u8]) -> bool {
-    match allowed(alloc, routes, head) {
-        Ok(methods) => methods.as_slice() == due,
-        Err(_) => false,
-    }
-}
-
-#[test]
-fn methods_of_a_path_are_told(rt: HostRuntime) -> Result<(), NoMemory> {
-    let alloc = rt.alloc();
-    let routes = Routes::new(alloc)?;
-    assert!(rt; is_allowed(alloc, &routes, CURL_GET, b"GET"));
-    assert!(rt; is_allowed(alloc, &routes, CURL_DELETE, b"PUT, DELETE"));
-    assert!(rt; is_allowed(alloc, &routes, ORIGIN_FORM, b"-"));
     Ok(())
 }
 

@@ -6,6 +6,8 @@
 #[cfg(test)]
 mod bytes;
 #[cfg(test)]
+mod client_heads;
+#[cfg(test)]
 mod days;
 #[cfg(test)]
 mod heads;
@@ -15,6 +17,8 @@ mod identifiers;
 mod models;
 #[cfg(test)]
 mod pieces;
+#[cfg(test)]
+mod routes;
 #[cfg(test)]
 mod stages;
 #[cfg(test)]
