@@ -102,7 +102,7 @@ rising_step set step sets =
     (between step.key Reverse Forward refl revs fwds))
 
 -- what holds of the breaks of each part holds of those of the step
-all_at : (P : Break → Type 0) (set : List Statement) (step : PlainStep)
+pub all_at : (P : Break → Type 0) (set : List Statement) (step : PlainStep)
     → AllByRecursion (λ x. P (break_at step.key Precondition x)) step.change.pre
     → AllByRecursion (λ x. P (break_at step.key Reverse x)) step.change.rev
     → AllByRecursion (λ x. P (break_at step.key Forward x)) step.change.fwd
@@ -121,7 +121,7 @@ all_at P set step a b c =
 -- ---- all steps
 
 -- where a key stands before all steps, a break at it stands before all of theirs
-later_breaks : (key : Key) (steps : List PlainStep) (set : List Statement) → AllByRecursion (λ step. key_cmp key step.key ≡ Less) steps
+pub later_breaks : (key : Key) (steps : List PlainStep) (set : List Statement) → AllByRecursion (λ step. key_cmp key step.key ≡ Less) steps
     → AllByRecursion (λ c. key_cmp key c.key ≡ Less) (statement_breaks set steps)
 later_breaks key [] set a = tt
 later_breaks key (step ∷ steps) set a =

@@ -4,4 +4,5 @@ pub mod Sorting
 pub mod Orders
 pub mod Missing
 pub mod Joins
+pub mod Changes
 mod Examples

@@ -23,7 +23,7 @@ before filing one = nat_lt one.filing filing
 abbrev pub after : ℕ → PlainProject → Bool
 after filing one = nat_lt filing one.filing
 
-abbrev other : ℕ → PlainProject → Bool
+abbrev pub other : ℕ → PlainProject → Bool
 other filing one = not (one.filing == filing)
 
 above : (x y : PlainProject) → filing_cmp x y ≡ Less → x.filing < y.filing
@@ -42,7 +42,7 @@ pub is_same : (m n : ℕ) → m ≡ n → not (m == n) ≡ false
 is_same m n h = grind (arith, nat_tests)
 
 -- behind a project that is not below, all are above
-record IsBehind (filing : ℕ) (xs : List PlainProject) : Type 0 where
+pub record IsBehind (filing : ℕ) (xs : List PlainProject) : Type 0 where
   pub none_before : filter (before filing) xs ≡ []
   pub all_after : filter (after filing) xs ≡ xs
   pub all_other : filter (other filing) xs ≡ xs
@@ -63,7 +63,7 @@ all_above : (filing : ℕ) (x : PlainProject) (xs : List PlainProject) → filin
 all_above filing x xs h = all_weaker (λ y. filing_cmp x y ≡ Less) (λ y. filing < y.filing) (λ y e. omega (arith, above x y e)) xs
 
 -- the tests at one project
-tests_before : (filing : ℕ) (x : PlainProject) (xs : List PlainProject) → x.filing < filing
+pub tests_before : (filing : ℕ) (x : PlainProject) (xs : List PlainProject) → x.filing < filing
     → (filter (before filing) (x ∷ xs) ≡ x ∷ filter (before filing) xs) × (filter (after filing) (x ∷ xs) ≡ filter (after filing) xs) × (filter (other filing) (x ∷ xs) ≡ x ∷ filter (other filing) xs)
 tests_before filing x xs h = (
   (λ i. cond (is_less x.filing filing h i) (x ∷ filter (before filing) xs) (filter (before filing) xs)),
@@ -71,7 +71,7 @@ tests_before filing x xs h = (
   (λ i. cond (is_other x.filing filing (λ e. omega (arith, e)) i) (x ∷ filter (other filing) xs) (filter (other filing) xs)),
 )
 
-tests_at : (filing : ℕ) (x : PlainProject) (xs : List PlainProject) → filing ≡ x.filing
+pub tests_at : (filing : ℕ) (x : PlainProject) (xs : List PlainProject) → filing ≡ x.filing
     → (filter (before filing) (x ∷ xs) ≡ filter (before filing) xs) × (filter (after filing) (x ∷ xs) ≡ filter (after filing) xs) × (filter (other filing) (x ∷ xs) ≡ filter (other filing) xs)
 tests_at filing x xs h = (
   (λ i. cond (not_less x.filing filing (omega arith) i) (x ∷ filter (before filing) xs) (filter (before filing) xs)),
@@ -81,10 +81,10 @@ tests_at filing x xs h = (
 
 module _ (filing : ℕ) (x : PlainProject) (xs : List PlainProject) (a : AllByRecursion (λ y. filing_cmp x y ≡ Less) xs) where
   -- where the first is above the number
-  first_above : filing < x.filing → IsBehind filing (x ∷ xs)
+  pub first_above : filing < x.filing → IsBehind filing (x ∷ xs)
   first_above h = behind filing (x ∷ xs) (h, all_above filing x xs (omega arith) a)
 
-  first_at : filing ≡ x.filing → IsBehind filing xs
+  pub first_at : filing ≡ x.filing → IsBehind filing xs
   first_at h = behind filing xs (all_above filing x xs (omega arith) a)
 
 pub without-split : (filing : ℕ) (xs : List PlainProject) → IsStrictlySortedBy filing_cmp xs → filter (before filing) xs ++ filter (after filing) xs ≡ without_filing filing xs

@@ -16,7 +16,7 @@ use Rattle.nm_stage.specs.Live.{filing_cmp}
 use Rattle.nm_stage.specs.Project.{PlainProject, key_of}
 use Rattle.nm_stage.specs.Steps.{in_order, project_cmp}
 
-project_cmp-total : IsTotalOrder project_cmp
+pub project_cmp-total : IsTotalOrder project_cmp
 project_cmp-total = on_total key_of key_cmp-total
 
 abbrev pub ref_cmp : Bor PlainProject → Bor PlainProject → Ordering
@@ -37,11 +37,11 @@ then_less Equal second e = ap is_eq e
 then_less Greater second e = refl
 
 -- projects of different filings are not level
-not_level : (x y : PlainProject) → filing_cmp x y ≡ Less → eq_by_cmp project_cmp x y ≡ false
+pub not_level : (x y : PlainProject) → filing_cmp x y ≡ Less → eq_by_cmp project_cmp x y ≡ false
 not_level x y below =
     then_less (day_cmp x.day y.day) (ordering_then (nat_cmp x.filing y.filing) (nat_cmp 0 0)) (ap (λ r. ordering_then r (nat_cmp 0 0)) below)
 
-distinct : (xs : List PlainProject) → IsStrictlySortedBy filing_cmp xs → IsDistinct (eq_by_cmp project_cmp) xs
+pub distinct : (xs : List PlainProject) → IsStrictlySortedBy filing_cmp xs → IsDistinct (eq_by_cmp project_cmp) xs
 unfolding IsStrictlySortedBy IsDistinct
 distinct [] s = tt
 distinct (x ∷ xs) s = (all_weaker (λ y. filing_cmp x y ≡ Less) (λ y. eq_by_cmp project_cmp x y ≡ false) (λ y. not_level x y) xs s.0, distinct xs s.1)

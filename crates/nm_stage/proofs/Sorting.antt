@@ -129,7 +129,7 @@ module _ {K : Type 0} {R : K → K → Ordering} (o : IsTotalOrder R) where
       (moved_members ys (rising_of o xs) back)
 
   -- where none is level with the new item, an insertion that keeps all items is one that keeps each once
-  placed_is : (xs : List K) (k : K) → AllByRecursion (λ x. eq_by_cmp R k x ≡ false) xs → placed_by R xs k ≡ insert_key R xs k
+  pub placed_is : (xs : List K) (k : K) → AllByRecursion (λ x. eq_by_cmp R k x ≡ false) xs → placed_by R xs k ≡ insert_key R xs k
   placed_is [] k d = refl
   placed_is (x ∷ xs) k d = by (placed_is xs k d.1) (R k x) d.0
     where

@@ -23,7 +23,9 @@ use Rattle.nm_statement.specs.Set.{has}
 use Rattle.nm_statement.specs.declared.set.Change.{Change}
 use Rattle.nm_statement.specs.declared.statement.Statement.{Statement}
 use Rattle.nm_version.specs.Missing.{cause_at, cause_or, missing_at}
-use Rattle.nm_version.specs.Replay.{breaks, causes, first_break, first_of, known_before, refusal_at, set_after, statement_causes}
+use Rattle.nm_check.specs.Breaks.{first_of}
+use Rattle.nm_check.specs.Replay.{set_after}
+use Rattle.nm_version.specs.Replay.{breaks, causes, first_break, known_before, refusal_at, statement_causes}
 use Rattle.nm_version.specs.declared.refusal.Cause.{Cause}
 use Rattle.nm_version.specs.declared.refusal.Cause.TheVariants.{Dependency, Precondition, Reverse, Forward}
 use Rattle.nm_version.specs.declared.refusal.Refusal.{Refusal}
@@ -102,7 +104,7 @@ cause_or-is : (least : Option ℕ) (other : Option Cause) → option_or (option_
 cause_or-is None other = refl
 cause_or-is (Some id) other = refl
 
-first_cause : (known : List ℕ) (set : List Statement) (p : PlainProject)
+pub first_cause : (known : List ℕ) (set : List Statement) (p : PlainProject)
     → first_of (causes known set p) ≡ cause_or (least_of (unmet known p.dependencies)) (first_of (statement_causes set p.change))
 first_cause known set p =
     let ids : List ℕ = rising_ids (unmet known p.dependencies) in
@@ -131,7 +133,7 @@ missing_behind : (known : List ℕ) (p : PlainProject) (ps : List PlainProject) 
 missing_behind known p ps None none = refl
 missing_behind known p ps (Some id) none = absurd (let wrong = none in cc)
 
-first_break_at : (known : List ℕ) (set : List Statement) (p : PlainProject) (ps : List PlainProject)
+pub first_break_at : (known : List ℕ) (set : List Statement) (p : PlainProject) (ps : List PlainProject)
     → first_of (breaks known set (p ∷ ps)) ≡ option_or (option_map (refusal_at p) (first_of (causes known set p))) (first_of (breaks (known ++ p.lineage) (set_after set p.change) ps))
 first_break_at known set p ps =
     let behind : List Refusal = breaks (known ++ p.lineage) (set_after set p.change) ps in

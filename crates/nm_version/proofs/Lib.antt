@@ -8,8 +8,12 @@ pub mod Lines
 pub mod Unnumbered
 mod Examples
 mod ExamplesOfTimelines
+mod ExamplesOfEdits
 mod ExamplesOfAssemblies
 pub mod Reached
 pub mod Beside
 pub mod Withdrawals
 pub mod Determined
+pub mod Lesser
+pub mod Fitting
+pub mod Edited

@@ -22,7 +22,8 @@ use Rattle.nm_statement.specs.declared.statement.Statement.{Statement}
 use Rattle.nm_timeline.specs.declared.part.Part.TheVariants.{Precondition, Reverse, Forward}
 use Rattle.nm_version.proofs.Subjects.{has_about, tail_rises}
 use Rattle.nm_version.specs.Objects.{is_about}
-use Rattle.nm_version.specs.Timeline.{Says, is_line_of, line_where, lines_from, lines_of, named_by, named_in, names_of, statement_lines, statement_of, step_lines}
+use Rattle.nm_check.specs.Timelines.{names_of}
+use Rattle.nm_version.specs.Timeline.{Says, is_line_of, line_where, lines_from, lines_of, named_by, named_in, statement_lines, statement_of, step_lines}
 use Rattle.nm_version.specs.declared.line.Line.{Line}
 use Rattle.nm_version.specs.declared.line.Line.TheVariants.{Base}
 

@@ -21,7 +21,7 @@ use Rattle.nm_statement.specs.Set.{IsRising, has, is_same, minus_of, set_of, uni
 use Rattle.nm_statement.specs.declared.set.Change.{Change}
 use Rattle.nm_statement.specs.declared.statement.Statement.{Statement}
 use Rattle.nm_version.specs.Objects.{change_about, is_about}
-use Rattle.nm_version.specs.Replay.{after_changes, set_after}
+use Rattle.nm_check.specs.Replay.{after_changes, set_after}
 
 -- ---- a search
 

@@ -18,8 +18,10 @@ use Rattle.nm_version.specs.Assembly.{assembly_header}
 use Rattle.nm_version.specs.Laws.{FilingNumbersStayInside, unnumbered}
 use Rattle.nm_version.specs.Objects.{is_about}
 use Rattle.nm_version.specs.Projects.{row_of}
-use Rattle.nm_version.specs.Replay.{after_changes, in_service, is_in_service}
-use Rattle.nm_version.specs.Timeline.{line_where, lines_from, names_of, step_lines}
+use Rattle.nm_check.specs.Replay.{after_changes}
+use Rattle.nm_version.specs.Replay.{in_service, is_in_service}
+use Rattle.nm_check.specs.Timelines.{names_of}
+use Rattle.nm_version.specs.Timeline.{line_where, lines_from, step_lines}
 use Rattle.nm_version.specs.declared.line.Line.TheVariants.{Base}
 
 -- ---- the order of the steps

@@ -15,6 +15,8 @@ pub mod Timeline
 -- .. and laws
 pub mod Laws
 pub mod Withdrawal
+pub mod Lesser
+pub mod Edits
 -- What the proofs of the code say
 pub mod Log
 pub mod Missing

@@ -5,7 +5,8 @@ use Rattle.nm_day.specs.Key.{key_cmp}
 use Rattle.nm_day.specs.declared.key.Key.{Key}
 use Rattle.nm_stage.specs.Project.{PlainStep}
 use Rattle.nm_statement.specs.declared.statement.Statement.{Statement}
-use Rattle.nm_version.specs.Replay.{first_of, statement_causes}
+use Rattle.nm_check.specs.Breaks.{first_of}
+use Rattle.nm_version.specs.Replay.{statement_causes}
 use Rattle.nm_version.specs.declared.refusal.Cause.{Cause}
 use Rattle.nm_version.specs.declared.refusal.Cause.TheVariants.{Dependency}
 

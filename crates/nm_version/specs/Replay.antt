@@ -2,6 +2,8 @@
 use Rattle.std.specs.Prelude.{ℕ, List, [], ◌∷◌, ◌++◌, Bool, not, Option, None, Some, map}
 use Rattle.std.specs.List.{filter}
 use Rattle.std.specs.Ordering.{is_le}
+use Rattle.nm_check.specs.Breaks.{first_of}
+use Rattle.nm_check.specs.Replay.{after_changes, set_after}
 use Rattle.nm_day.specs.Day.{day_cmp}
 use Rattle.nm_model.specs.Header.{rising_ids}
 use Rattle.nm_model.specs.declared.document.Full.{Full}
@@ -9,22 +11,13 @@ use Rattle.nm_model.specs.declared.header.Header.{Header}
 use Rattle.nm_stage.specs.Dependencies.{unmet}
 use Rattle.nm_stage.specs.Project.{PlainProject, model_of}
 use Rattle.nm_stage.specs.Steps.{in_order}
-use Rattle.nm_statement.specs.Set.{has, minus_of, union_of}
+use Rattle.nm_statement.specs.Set.{has}
 use Rattle.nm_statement.specs.declared.set.Change.{Change}
 use Rattle.nm_statement.specs.declared.statement.Statement.{Statement}
 use Rattle.nm_version.specs.declared.refusal.Cause.{Cause}
 use Rattle.nm_version.specs.declared.refusal.Cause.TheVariants.{Dependency, Precondition, Reverse, Forward}
 use Rattle.nm_version.specs.declared.refusal.Refusal.{Refusal}
 use Rattle.nm_version.specs.declared.refusal.Refusal.TheVariants as refusal
-
--- the set after a change, whether or not it fits
-abbrev pub set_after : List Statement → Change → List Statement
-set_after set change = union_of (minus_of set change.rev) change.fwd
-
--- the set after changes, one after another
-abbrev pub after_changes : List Statement → List Change → List Statement
-after_changes set [] = set
-after_changes set (change ∷ changes) = after_changes (set_after set change) changes
 
 -- ---- a day
 
@@ -41,10 +34,6 @@ abbrev pub statements_at : Full → List PlainProject → List ℕ → List Stat
 statements_at base live day = after_changes base.statements (map (λ step. step.change) (in_service live day))
 
 -- ---- what does not fit
-
-abbrev pub first_of : {X : Type 0} → List X → Option X
-first_of [] = None
-first_of (x ∷ xs) = Some x
 
 -- why a change does not fit a set: preconditions and reverse statements that it lacks, forward statements that
 -- it has, each in statement order

@@ -1,22 +1,18 @@
 -- What the base and the steps say of the statements of one subject.
 use Rattle.std.specs.Prelude.{◌≡◌, List, [], ◌∷◌, ◌++◌, Bool, if◌then◌else◌}
 use Rattle.std.specs.List.{filter, flat_map}
+use Rattle.nm_check.specs.Timelines.{names_of}
 use Rattle.nm_ident.specs.declared.ident.Ident.{Ident}
 use Rattle.nm_model.specs.declared.document.Full.{Full}
 use Rattle.nm_stage.specs.Project.{PlainProject, model_of}
 use Rattle.nm_stage.specs.Steps.{in_order}
 use Rattle.nm_statement.specs.Set.{has, is_same, set_of}
-use Rattle.nm_statement.specs.declared.set.Change.{Change}
 use Rattle.nm_statement.specs.declared.statement.Statement.{Statement}
 use Rattle.nm_timeline.specs.declared.part.Part.{Part}
 use Rattle.nm_timeline.specs.declared.part.Part.TheVariants.{Precondition, Reverse, Forward}
 use Rattle.nm_version.specs.Objects.{is_about}
 use Rattle.nm_version.specs.declared.line.Line.{Line}
 use Rattle.nm_version.specs.declared.line.Line.TheVariants.{Base, Named}
-
--- the statements that a change names
-abbrev pub names_of : Change → List Statement
-names_of change = change.pre ++ change.rev ++ change.fwd
 
 -- those that the base or a step names, in order
 abbrev pub named_by : List Statement → List PlainProject → List Statement

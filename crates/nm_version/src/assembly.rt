@@ -2,6 +2,7 @@
 ghost use Rattle.nm_day.specs.Day.{day_cmp};
 ghost use Rattle.nm_stage.specs.Project.{step_of};
 ghost use Rattle.nm_version.specs.Assembly as spec;
+ghost use Rattle.nm_check.specs.Replay.{after_changes};
 ghost use Rattle.nm_version.specs.Replay as replay;
 ghost use Rattle.nm_model.specs.Header.{rising_ids};
 ghost use Rattle.std.specs.List.{filter};
@@ -61,7 +62,7 @@ fn is_up_to(step: &Step, day: Day) -> bool
 
 /// The statements after the steps.
 fn statements_after(alloc: Global, base: &Set, steps: &[Step]) -> Result<Set, NoMemory>
-    ensures { IfOk result (λ set. set ≡ replay.after_changes base.now (map (λ step. step.change) steps.now)) }
+    ensures { IfOk result (λ set. set ≡ after_changes base.now (map (λ step. step.change) steps.now)) }
 {
     let mut set = base.copy(alloc)?;
     for step in steps {

@@ -1,5 +1,7 @@
 // Laws of this crate's definitions. They take no time: a call brings the law to a proof.
 ghost use Rattle.nm_version.specs.Laws as law;
+ghost use Rattle.nm_version.specs.Edits.{CommandsEditSteps};
+ghost use Rattle.nm_version.specs.Lesser.{FirstBreakIsTheLesser, WhatIsReachedFits};
 ghost use Rattle.nm_version.specs.Withdrawal as withdrawal;
 
 /// A project that is filed has a filing number of its own, and so it stands behind all others.
@@ -24,4 +26,23 @@ pub fn logs_determine_what_is_kept()
 pub fn withdrawals_take_away()
     ensures withdrawn { withdrawal.WithdrawalsTakeAway }
     ensures unfiled { withdrawal.WithdrawnAsIfNotFiled }
+{}
+
+/// The first break of the live projects is the lesser, by the keys of their steps, of the first
+/// dependency that is not met and the first statement that does not fit; at one key it is the
+/// dependency.
+pub fn first_break_is_the_lesser()
+    ensures { FirstBreakIsTheLesser }
+{}
+
+/// Of what accepted commands have led to, each dependency is met, and each statement of each step
+/// fits what stands before it.
+pub fn what_is_reached_fits()
+    ensures { WhatIsReachedFits }
+{}
+
+/// A command that no rule before the replay refuses edits the steps of the live projects: a filing
+/// adds one, a withdrawal takes one away, and a revision or another day does both.
+pub fn commands_edit_steps()
+    ensures { CommandsEditSteps }
 {}

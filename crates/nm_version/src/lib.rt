@@ -25,7 +25,8 @@ mod version;
 
 pub use command::{Command, Entry};
 pub use laws::{
-    filed_projects_come_last, filing_numbers_stay_inside, logs_determine_what_is_kept,
+    commands_edit_steps, filed_projects_come_last, filing_numbers_stay_inside,
+    first_break_is_the_lesser, logs_determine_what_is_kept, what_is_reached_fits,
     withdrawals_take_away,
 };
 pub use limits::{LARGEST_STORE, MOST_COMMITS, MOST_STEPS};

@@ -1,7 +1,8 @@
 // What is said of one subject on a day.
 ghost use Rattle.nm_statement.specs.Set.{IsRising};
 ghost use Rattle.nm_version.specs.Objects as spec;
-ghost use Rattle.nm_version.specs.Replay.{after_changes, is_in_service, set_after};
+ghost use Rattle.nm_check.specs.Replay.{after_changes, set_after};
+ghost use Rattle.nm_version.specs.Replay.{is_in_service};
 ghost use Rattle.std.specs.List.{filter};
 ghost use Rattle.std.specs.Prelude.{◌≡◌, IfOk, map};
 

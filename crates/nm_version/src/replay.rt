@@ -1,4 +1,6 @@
 // Replay: the set of statements after the steps, one after another, and what does not fit.
+ghost use Rattle.nm_check.specs.Breaks.{first_of};
+ghost use Rattle.nm_check.specs.Replay as changed;
 ghost use Rattle.nm_stage.specs.Project.{PlainStep, step_of};
 ghost use Rattle.nm_statement.specs.Set.{has};
 ghost use Rattle.nm_version.specs.Missing as missed;
@@ -38,7 +40,7 @@ fn first_present<'a>(set: &Set, added: &'a Set) -> Option<&'a Statement>
 
 /// The first statement of the change that does not fit the set, by its parts in their order.
 fn statement_cause(alloc: Global, set: &Set, change: &Change) -> Result<Option<Cause>, NoMemory>
-    ensures { IfOk result (λ cause. cause ≡ spec.first_of (spec.statement_causes set.now change.now)) }
+    ensures { IfOk result (λ cause. cause ≡ first_of (spec.statement_causes set.now change.now)) }
 {
     if let Some(statement) = first_missing(set, &change.pre) {
         return Ok(Some(Cause::Precondition(statement.copy(alloc)?)));
@@ -54,7 +56,7 @@ fn statement_cause(alloc: Global, set: &Set, change: &Change) -> Result<Option<C
 
 /// The set after a change, whether or not the change fits.
 pub(crate) fn set_after(alloc: Global, set: &Set, change: &Change) -> Result<Set, NoMemory>
-    ensures { IfOk result (λ after. after ≡ spec.set_after set.now change.now) }
+    ensures { IfOk result (λ after. after ≡ changed.set_after set.now change.now) }
 {
     set.minus(alloc, &change.rev)?.union(alloc, &change.fwd)
 }

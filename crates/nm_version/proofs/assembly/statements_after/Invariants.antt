@@ -1,5 +1,5 @@
 use Rattle.std.proofs.Common.{◌≡◌, drop, map}
-use Rattle.nm_version.specs.Replay.{after_changes}
+use Rattle.nm_check.specs.Replay.{after_changes}
 use Rattle.nm_version.proofs.assembly.statements_after.Given as goal
 
 abbrev pub invariant-loop-step : goal.invariant-loop-step

@@ -4,7 +4,8 @@ use Rattle.nm_stage.proofs.Lists.{map-map}
 use Rattle.nm_stage.specs.Project.{PlainProject}
 use Rattle.nm_statement.specs.declared.statement.Statement.{Statement}
 use Rattle.nm_version.specs.Objects.{change_about}
-use Rattle.nm_version.specs.Replay.{after_changes, is_in_service}
+use Rattle.nm_check.specs.Replay.{after_changes}
+use Rattle.nm_version.specs.Replay.{is_in_service}
 use Rattle.nm_version.proofs.Subjects.{about_after_changes}
 use Rattle.nm_version.proofs.object.statements_after.Goals as goal
 

@@ -1,7 +1,8 @@
 use Rattle.std.proofs.Common.{◌≡◌, drop, map}
 use Rattle.std.specs.List.{filter}
 use Rattle.nm_version.specs.Objects.{change_about, is_about}
-use Rattle.nm_version.specs.Replay.{after_changes, is_in_service}
+use Rattle.nm_check.specs.Replay.{after_changes}
+use Rattle.nm_version.specs.Replay.{is_in_service}
 use Rattle.nm_version.proofs.object.statements_after.Given as goal
 
 -- what the projects so far have made of the subject's statements becomes what all make of them

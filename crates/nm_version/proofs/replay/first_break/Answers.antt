@@ -3,7 +3,7 @@ use Rattle.std.proofs.lemmas.List.{drop_all}
 use Rattle.nm_stage.specs.Project.{PlainStep}
 use Rattle.nm_statement.specs.declared.statement.Statement.{Statement}
 use Rattle.nm_version.proofs.Breaks.{Replays, begins, breaks_at, ends, first_left, goes_on_from}
-use Rattle.nm_version.specs.Replay.{set_after}
+use Rattle.nm_check.specs.Replay.{set_after}
 use Rattle.nm_version.specs.declared.refusal.Refusal.TheVariants as refusal
 use Rattle.nm_version.proofs.replay.first_break.Goals as goal
 

@@ -2,7 +2,8 @@ use Rattle.std.proofs.Common.{◌∙◌, map, sym, ap}
 use Rattle.nm_stage.proofs.Lists.{map-map}
 use Rattle.nm_stage.specs.Project.{PlainStep, step_of}
 use Rattle.nm_version.specs.Assembly.{assembly_header}
-use Rattle.nm_version.specs.Replay.{after_changes, in_service}
+use Rattle.nm_check.specs.Replay.{after_changes}
+use Rattle.nm_version.specs.Replay.{in_service}
 use Rattle.nm_version.proofs.version.Version.assemble.Goals as goal
 
 pub returns : goal.returns

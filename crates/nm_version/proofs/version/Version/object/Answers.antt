@@ -3,7 +3,8 @@ use Rattle.std.proofs.lemmas.Result.{IfOk-weaker}
 use Rattle.std.specs.List.{filter}
 use Rattle.nm_stage.specs.Steps.{in_order}
 use Rattle.nm_version.specs.Objects.{is_about}
-use Rattle.nm_version.specs.Replay.{after_changes, is_in_service}
+use Rattle.nm_check.specs.Replay.{after_changes}
+use Rattle.nm_version.specs.Replay.{is_in_service}
 use Rattle.nm_version.proofs.version.Version.object.Goals as goal
 
 pub returns : goal.returns
