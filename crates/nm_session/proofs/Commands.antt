@@ -3,17 +3,15 @@ use Rattle.std.proofs.Common.{◌≡◌, ℕ, ◌+◌, ◌-◌, ◌<◌, ◌≤�
 use Rattle.std.proofs.lemmas.List.{get_or-take, length-take, length-append, take-take, take_at, drop_at, drop-take, get_or_append_left, get_or-append_right}
 use Rattle.std.proofs.lemmas.Bool.{le-leb, lt-leb}
 use Rattle.std.specs.List.{position}
-use Rattle.nm_base.specs.declared.outcome.Status.{Status}
-use Rattle.nm_base.specs.declared.outcome.Status.TheVariants.{Done, Refused, Usage, ReadFault, WriteFault, NoMemory, BadSession, Cut, TooMuch, DoorFault}
-use Rattle.nm_session.specs.Stops.{bad_line_at}
 use Rattle.nm_session.specs.Turn.{turn_of}
-use Rattle.nm_session.specs.Turns.{TakesCommand, TakesTurn, TurnStops, NoTurnBy}
+use Rattle.nm_session.specs.Turns.{TakesCommand, TakesTurn, NoTurnBy}
 use Rattle.nm_session.specs.Buffered.{Buffered}
 use Rattle.nm_session.specs.Limits.{longest_line, longest_session}
 use Rattle.nm_session.specs.Input.{coming, in_session, GivesLine, GivesBody, NoLineBy, NoBodyBy}
-use Rattle.nm_session.specs.Stream.{Command, BadLine, Short, by_line, by_word, command_with_body, next_in, is_line_feed, line_end}
+use Rattle.nm_session.specs.Stream.{Command, NotACommand, Short, by_line, by_word, command_with_body, next_in, is_line_feed, line_end}
 use Rattle.nm_session.specs.Word.{word_of, body_length, is_end}
-use Rattle.nm_session.specs.declared.stop.Stop.{Stop}
+use Rattle.nm_session.specs.declared.halt.Halt.{Halt}
+use Rattle.nm_session.specs.declared.halt.Halt.TheVariants.{BadLine, Cut, TooMuch, ReadFault, NoMemory}
 use Rattle.nm_session.specs.declared.state.State.{State}
 use Rattle.nm_session.specs.PlainWord.{PlainWord}
 use Rattle.nm_session.proofs.LineFeeds.{none-each, some-at}
@@ -70,36 +68,31 @@ next_is state old mid line xs ys e short whole given limit =
     ∙ ap (λ n. by_word state (word_of line) (take (longest_session - n) ys)) behind
 
 -- no line was given
-pub no_line : (state : State) (buffered : Buffered) (left : Option (List ℕ)) (status : Status) (at : ℕ) → NoLineBy status at buffered left
-    → IfSome (coming buffered left) (λ bytes. NoTurnBy status at state buffered bytes)
-no_line state buffered None status at why = tt
-no_line state buffered (Some xs) BadSession at why =
+pub no_line : (state : State) (buffered : Buffered) (left : Option (List ℕ)) (halt : Halt) → NoLineBy halt buffered left
+    → IfSome (coming buffered left) (λ bytes. NoTurnBy halt state buffered bytes)
+no_line state buffered None halt why = tt
+no_line state buffered (Some xs) (BadLine at) why =
     let session = in_session buffered (buffered.ahead ++ xs) in (
       why.0,
-      ap (λ o. by_line state o session) why.1.none ∙ ap (λ b. cond b Short BadLine) (lt-leb (length session) longest_line why.1.long),
+      ap (λ o. by_line state o session) why.1.none ∙ ap (λ b. cond b Short NotACommand) (lt-leb (length session) longest_line why.1.long),
     )
-no_line state buffered (Some xs) Cut at why =
+no_line state buffered (Some xs) Cut why =
     let session = in_session buffered (buffered.ahead ++ xs) in
-    (ap (λ o. by_line state o session) why.0.none ∙ ap (λ b. cond b Short BadLine) (le-leb (length session) longest_line why.0.short), why.1)
-no_line state buffered (Some xs) TooMuch at why =
+    (ap (λ o. by_line state o session) why.0.none ∙ ap (λ b. cond b Short NotACommand) (le-leb (length session) longest_line why.0.short), why.1)
+no_line state buffered (Some xs) TooMuch why =
     let session = in_session buffered (buffered.ahead ++ xs) in
-    (ap (λ o. by_line state o session) why.0.none ∙ ap (λ b. cond b Short BadLine) (le-leb (length session) longest_line why.0.short), why.1)
-no_line state buffered (Some xs) ReadFault at why = tt
-no_line state buffered (Some xs) NoMemory at why = tt
-no_line state buffered (Some xs) Done at why = absurd why
-no_line state buffered (Some xs) Refused at why = absurd why
-no_line state buffered (Some xs) Usage at why = absurd why
-no_line state buffered (Some xs) WriteFault at why = absurd why
-no_line state buffered (Some xs) DoorFault at why = absurd why
+    (ap (λ o. by_line state o session) why.0.none ∙ ap (λ b. cond b Short NotACommand) (le-leb (length session) longest_line why.0.short), why.1)
+no_line state buffered (Some xs) ReadFault why = tt
+no_line state buffered (Some xs) NoMemory why = tt
 
 -- a line that is no command here
-pub bad_word : (state : State) (old mid : Buffered) (before after : Option (List ℕ)) (line : List ℕ) (stop : Stop) (at : ℕ) → GivesLine old mid before after line → at ≡ old.given
-    → stop ≡ bad_line_at at → ((bytes : List ℕ) → by_word state (word_of line) bytes ≡ BadLine)
-    → IfSome (coming old before) (λ bytes. TurnStops stop state old bytes)
-bad_word state old mid None after line stop at gives here is bad = tt
-bad_word state old mid (Some xs) None line stop at gives here is bad = absurd gives.taken
-bad_word state old mid (Some xs) (Some ys) line stop at gives here is bad =
-    subst (λ (s : Stop). TurnStops s state old (old.ahead ++ xs)) (sym is)
+pub bad_word : (state : State) (old mid : Buffered) (before after : Option (List ℕ)) (line : List ℕ) (halt : Halt) (at : ℕ) → GivesLine old mid before after line → at ≡ old.given
+    → halt ≡ BadLine at → ((bytes : List ℕ) → by_word state (word_of line) bytes ≡ NotACommand)
+    → IfSome (coming old before) (λ bytes. NoTurnBy halt state old bytes)
+bad_word state old mid None after line halt at gives here is bad = tt
+bad_word state old mid (Some xs) None line halt at gives here is bad = absurd gives.taken
+bad_word state old mid (Some xs) (Some ys) line halt at gives here is bad =
+    subst (λ (h : Halt). NoTurnBy h state old (old.ahead ++ xs)) (sym is)
     (here, next_is state old mid line _ _ gives.taken gives.short gives.whole gives.given gives.limit ∙ bad _)
 
 short_of : (word : PlainWord) (bytes : List ℕ) → length bytes < body_length word → command_with_body word bytes ≡ Short
@@ -112,29 +105,24 @@ line_size : (line xs ys : List ℕ) → xs ≡ (line ++ 10 ∷ []) ++ ys → len
 line_size line xs ys e = ap length e ∙ length-append (line ++ 10 ∷ []) ys ∙ ap (λ n. n + length ys) (length-append line (10 ∷ []))
 
 -- a document that does not stand whole behind its line
-pub no_body : (state : State) (old mid : Buffered) (before after : Option (List ℕ)) (line : List ℕ) (word : PlainWord) (status : Status) (at len : ℕ) → GivesLine old mid before after line
-    → ((bytes : List ℕ) → by_word state (word_of line) bytes ≡ command_with_body word bytes) → len ≡ body_length word → NoBodyBy status len mid after
-    → IfSome (coming old before) (λ bytes. NoTurnBy status at state old bytes)
-no_body state old mid None after line word status at len gives by is why = tt
-no_body state old mid (Some xs) None line word status at len gives by is why = absurd gives.taken
-no_body state old mid (Some xs) (Some ys) line word Cut at len gives by is why =
+pub no_body : (state : State) (old mid : Buffered) (before after : Option (List ℕ)) (line : List ℕ) (word : PlainWord) (halt : Halt) (len : ℕ) → GivesLine old mid before after line
+    → ((bytes : List ℕ) → by_word state (word_of line) bytes ≡ command_with_body word bytes) → len ≡ body_length word → NoBodyBy halt len mid after
+    → IfSome (coming old before) (λ bytes. NoTurnBy halt state old bytes)
+no_body state old mid None after line word halt len gives by is why = tt
+no_body state old mid (Some xs) None line word halt len gives by is why = absurd gives.taken
+no_body state old mid (Some xs) (Some ys) line word Cut len gives by is why =
     let size = line_size line (old.ahead ++ xs) (mid.ahead ++ ys) gives.taken in (
       next_is state old mid line _ _ gives.taken gives.short gives.whole gives.given gives.limit ∙ by _ ∙ short_of word (in_session mid (mid.ahead ++ ys)) (omega (arith, why.0)),
       omega (arith, why.1, gives.given),
     )
-no_body state old mid (Some xs) (Some ys) line word TooMuch at len gives by is why =
+no_body state old mid (Some xs) (Some ys) line word TooMuch len gives by is why =
     let size = line_size line (old.ahead ++ xs) (mid.ahead ++ ys) gives.taken in (
       next_is state old mid line _ _ gives.taken gives.short gives.whole gives.given gives.limit ∙ by _ ∙ short_of word (in_session mid (mid.ahead ++ ys)) (omega (arith, why.0)),
       omega (arith, why.1, gives.given),
     )
-no_body state old mid (Some xs) (Some ys) line word ReadFault at len gives by is why = tt
-no_body state old mid (Some xs) (Some ys) line word NoMemory at len gives by is why = tt
-no_body state old mid (Some xs) (Some ys) line word BadSession at len gives by is why = absurd why
-no_body state old mid (Some xs) (Some ys) line word WriteFault at len gives by is why = absurd why
-no_body state old mid (Some xs) (Some ys) line word Done at len gives by is why = absurd why
-no_body state old mid (Some xs) (Some ys) line word Refused at len gives by is why = absurd why
-no_body state old mid (Some xs) (Some ys) line word Usage at len gives by is why = absurd why
-no_body state old mid (Some xs) (Some ys) line word DoorFault at len gives by is why = absurd why
+no_body state old mid (Some xs) (Some ys) line word ReadFault len gives by is why = tt
+no_body state old mid (Some xs) (Some ys) line word NoMemory len gives by is why = tt
+no_body state old mid (Some xs) (Some ys) line word (BadLine at) len gives by is why = absurd why
 
 -- a whole command
 pub takes_command : (state : State) (old mid new : Buffered) (before between after : Option (List ℕ)) (line body : List ℕ) (word : PlainWord) (len : ℕ) → GivesLine old mid before between line

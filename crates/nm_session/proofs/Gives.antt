@@ -10,10 +10,10 @@ use Rattle.std.specs.Io.KnownBytes.{Consumes}
 use Rattle.nm_session.specs.Limits.{longest_line, longest_session}
 use Rattle.nm_session.specs.Stream.{is_line_feed}
 use Rattle.nm_session.specs.Buffered.{Buffered}
-use Rattle.nm_session.specs.Ahead.{ReadsAhead, SeekLacks, LackTells, LineLacks}
-use Rattle.nm_session.specs.Input.{coming, GivesLine, GivesBody, HasNoLine}
-use Rattle.nm_session.specs.declared.lack.Lack.{Lack}
-use Rattle.nm_session.specs.declared.lack.Lack.TheVariants.{ReadFault, NoMemory, LongLine, Cut, TooMuch}
+use Rattle.nm_session.specs.Ahead.{NoLineFeedComes, ReadsAhead, ReadsNoMore}
+use Rattle.nm_session.specs.Input.{coming, GivesLine, GivesBody, HaltTells, HasNoLine, NoLineBy}
+use Rattle.nm_session.specs.declared.halt.Halt.{Halt}
+use Rattle.nm_session.specs.declared.halt.Halt.TheVariants.{ReadFault, NoMemory, BadLine, Cut, TooMuch}
 use Rattle.nm_session.proofs.LineFeeds.{none-before}
 
 -- of what comes, the front of the buffered bytes was given
@@ -63,15 +63,15 @@ no_line_in bytes given room is few none =
     (record { short = omega arith; none = ap (position is_line_feed) (take_all (longest_line + 1) bytes (omega arith)) ∙ none })
 
 -- why the next line feed is not known is why no line was given
-pub line_lacks : (lack : Lack) (room : ℕ) (buffered : Buffered) (left : Option (List ℕ)) → room ≡ min (longest_line + 1) (longest_session - buffered.given) → SeekLacks lack room buffered left
-    → LineLacks lack buffered left
-line_lacks Cut room buffered None is s = tt
-line_lacks Cut room buffered (Some xs) is s =
+pub no_line_feed : (halt : Halt) (room : ℕ) (buffered : Buffered) (left : Option (List ℕ)) → room ≡ min (longest_line + 1) (longest_session - buffered.given) → ReadsNoMore (NoLineFeedComes room buffered left) halt
+    → NoLineBy halt buffered left
+no_line_feed Cut room buffered None is s = tt
+no_line_feed Cut room buffered (Some xs) is s =
     (no_line_in (buffered.ahead ++ xs) buffered.given room is s.0 s.1, omega (arith, s.0))
-line_lacks ReadFault room buffered left is s = tt
-line_lacks NoMemory room buffered left is s = tt
-line_lacks LongLine room buffered left is s = absurd s
-line_lacks TooMuch room buffered left is s = absurd s
+no_line_feed ReadFault room buffered left is s = tt
+no_line_feed NoMemory room buffered left is s = tt
+no_line_feed (BadLine at) room buffered left is s = absurd s
+no_line_feed TooMuch room buffered left is s = absurd s
 
 -- no line feed is among the first of the buffered bytes, and so not among the first of those that come
 none_coming : (bytes ahead left : List ℕ) (room : ℕ) → ahead ++ left ≡ bytes → room ≤ length ahead → position is_line_feed (take room ahead) ≡ None
@@ -81,21 +81,23 @@ none_coming bytes ahead left room e buffered none =
 
 long_line : (old mid : Buffered) (before after : Option (List ℕ)) (room : ℕ) → ReadsAhead old mid before after
     → room ≡ min (longest_line + 1) (longest_session - old.given) → room ≡ longest_line + 1 → position is_line_feed (take room mid.ahead) ≡ None → room ≤ length mid.ahead
-    → LineLacks LongLine old before
-long_line old mid None after room reads is long none buffered = tt
+    → NoLineBy (BadLine mid.given) old before
+long_line old mid None after room reads is long none buffered = (reads.given, tt)
 long_line old mid (Some xs) None room reads is long none buffered = absurd reads.coming
 long_line old mid (Some xs) (Some ys) room reads is long none buffered =
     let bytes = old.ahead ++ xs in
-    let size : room ≤ length bytes = omega (arith, ap length reads.coming, length-append mid.ahead ys) in
-    record {
-      long = omega (arith, length-take (longest_session - old.given) bytes);
-      none = ap (position is_line_feed) (take-take (longest_line + 1) (longest_session - old.given) bytes (omega arith) ∙ ap (λ n. take n bytes) (sym long))
-          ∙ none_coming bytes mid.ahead ys room reads.coming buffered none;
-    }
+    let size : room ≤ length bytes = omega (arith, ap length reads.coming, length-append mid.ahead ys) in (
+      reads.given,
+      record {
+        long = omega (arith, length-take (longest_session - old.given) bytes);
+        none = ap (position is_line_feed) (take-take (longest_line + 1) (longest_session - old.given) bytes (omega arith) ∙ ap (λ n. take n bytes) (sym long))
+            ∙ none_coming bytes mid.ahead ys room reads.coming buffered none;
+      },
+    )
 
 no_more_lines : (old mid : Buffered) (before after : Option (List ℕ)) (room : ℕ) → ReadsAhead old mid before after
     → room ≡ min (longest_line + 1) (longest_session - old.given) → room ≢ longest_line + 1 → position is_line_feed (take room mid.ahead) ≡ None → room ≤ length mid.ahead
-    → LineLacks TooMuch old before
+    → NoLineBy TooMuch old before
 no_more_lines old mid None after room reads is long none buffered = tt
 no_more_lines old mid (Some xs) None room reads is long none buffered = absurd reads.coming
 no_more_lines old mid (Some xs) (Some ys) room reads is full none buffered =
@@ -112,24 +114,24 @@ no_more_lines old mid (Some xs) (Some ys) room reads is full none buffered =
       omega arith,
     )
 
--- what is lacking where no line ends within the room
-pub record IsNoLine (lack : Lack) (room : ℕ) : Type 0 where
-  pub long : room ≡ longest_line + 1 → lack ≡ LongLine
-  pub full : room ≢ longest_line + 1 → lack ≡ TooMuch
+-- why nothing more is taken where no line ends within the room
+pub record IsNoLine (halt : Halt) (room at : ℕ) : Type 0 where
+  pub long : room ≡ longest_line + 1 → halt ≡ BadLine at
+  pub full : room ≢ longest_line + 1 → halt ≡ TooMuch
 
-pub no_line_lacks : (lack : Lack) (old mid : Buffered) (before after : Option (List ℕ)) (room : ℕ) → IsNoLine lack room → ReadsAhead old mid before after
+pub no_line_within : (halt : Halt) (old mid : Buffered) (before after : Option (List ℕ)) (room : ℕ) → IsNoLine halt room mid.given → ReadsAhead old mid before after
     → room ≡ min (longest_line + 1) (longest_session - old.given) → position is_line_feed (take room mid.ahead) ≡ None → room ≤ length mid.ahead
-    → LineLacks lack old before
-no_line_lacks lack old mid before after room no_line reads is none buffered =
+    → NoLineBy halt old before
+no_line_within halt old mid before after room no_line reads is none buffered =
     elim (eqb_tells room (longest_line + 1)) [
-      | inl long ↦ subst (λ (s : Lack). LineLacks s old before) (sym (no_line.long long.1)) (long_line old mid before after room reads is long.1 none buffered)
-      | inr full ↦ subst (λ (s : Lack). LineLacks s old before) (sym (no_line.full full.1)) (no_more_lines old mid before after room reads is full.1 none buffered)
+      | inl long ↦ subst (λ (h : Halt). NoLineBy h old before) (sym (no_line.long long.1)) (long_line old mid before after room reads is long.1 none buffered)
+      | inr full ↦ subst (λ (h : Halt). NoLineBy h old before) (sym (no_line.full full.1)) (no_more_lines old mid before after room reads is full.1 none buffered)
     ]
 
 -- where no line ends, no call failed
-pub no_line_tells : (lack : Lack) (room before after : ℕ) (left : Option (List ℕ)) → IsNoLine lack room → after ≡ before → LackTells lack before after left
-no_line_tells lack room before after left no_line same =
+pub no_line_tells : (halt : Halt) (room at before after : ℕ) (left : Option (List ℕ)) → IsNoLine halt room at → after ≡ before → HaltTells halt before after left
+no_line_tells halt room at before after left no_line same =
     elim (eqb_tells room (longest_line + 1)) [
-      | inl long ↦ subst (λ (s : Lack). LackTells s before after left) (sym (no_line.long long.1)) same
-      | inr full ↦ subst (λ (s : Lack). LackTells s before after left) (sym (no_line.full full.1)) same
+      | inl long ↦ subst (λ (h : Halt). HaltTells h before after left) (sym (no_line.long long.1)) same
+      | inr full ↦ subst (λ (h : Halt). HaltTells h before after left) (sym (no_line.full full.1)) same
     ]

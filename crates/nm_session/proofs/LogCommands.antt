@@ -49,7 +49,7 @@ module _ (state : State) (word : PlainWord) (line body rest bytes : List ℕ) (s
   pub comes : allows state word ≡ true → length body ≡ body_length word → next_in state bytes ≡ stream.Command word body rest
   comes allowed size =
       line_stands
-      ∙ ap (λ b. cond b (stream.command_with_body word (body ++ rest)) stream.BadLine) allowed
+      ∙ ap (λ b. cond b (stream.command_with_body word (body ++ rest)) stream.NotACommand) allowed
       ∙ whole_of word (body ++ rest) (omega (arith, size, length-append body rest))
       ∙ (λ i. stream.Command word (take_at body rest (body_length word) size i) (drop_at body rest (body_length word) size i))
 

@@ -4,7 +4,7 @@ use Rattle.std.proofs.lemmas.List.{length-append, length-map, take_all}
 use Rattle.std.proofs.lemmas.List.Sums.{sum_by-append}
 use Rattle.std.specs.Fmt.{decimal}
 use Rattle.std.specs.List.{AllByRecursion, flat_map}
-use Rattle.nm_base.specs.declared.outcome.Status.{Status}
+use Rattle.nm_session.specs.Ending.{Ending}
 use Rattle.nm_version.proofs.Reached as reached
 use Rattle.nm_version.proofs.Reached.{AllAccepted, AreFew, accepts_it, after_accepted, one_more}
 use Rattle.nm_version.specs.After.{IsReached, accepted, after_all}
@@ -40,7 +40,7 @@ goes_on (command.Redate project day) turn others = refl
 goes_on (command.Withdraw project) turn others = refl
 
 -- the commands of a log, and then `end`
-ends_behind : (turns : ℕ) (on_short : Status) (at : ℕ) (kept : Kept) (commands : List Command) (bytes : List ℕ) → AllAccepted kept commands → AllByRecursion IsSpelt commands → AllByRecursion HasLine commands
+ends_behind : (turns : ℕ) (on_short : Ending) (at : ℕ) (kept : Kept) (commands : List Command) (bytes : List ℕ) → AllAccepted kept commands → AllByRecursion IsSpelt commands → AllByRecursion HasLine commands
     → length bytes ≤ longest_session → length bytes ≤ turns → bytes ≡ text_of commands
     → outcome_within (suc turns) on_short (Store kept) at bytes ≡ ended_with (replies_behind (number_of kept) (map entry_of commands)) (after_all kept commands)
 ends_behind turns on_short at kept [] bytes all spelt lines fits enough is =
@@ -124,7 +124,7 @@ module _ (kept : Kept) (r : IsReached kept) where
         few.size,
       )
 
-  ends_within : (turns : ℕ) (on_short : Status) → length (log_of kept) ≤ turns
+  ends_within : (turns : ℕ) (on_short : Ending) → length (log_of kept) ≤ turns
       → outcome_within (suc turns) on_short Empty 0 (log_of kept) ≡ ended_with (numbered (codes "ok") 0 ++ replies_behind 0 kept.log) kept
   ends_within zero on_short enough = absurd (omega (arith, base_size))
   ends_within (suc turns) on_short enough =

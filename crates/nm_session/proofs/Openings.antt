@@ -1,19 +1,17 @@
 -- Lemmas on the opening of a store from a stream, in between its commands and at its end.
-use Rattle.std.proofs.Common.{◌≡◌, ℕ, ◌<◌, ◌≤◌, List, [], ◌++◌, Option, None, Some, IfSome, Bool, true, false, Err, IsTrue, refl, sym, ap, ◌∙◌, subst}
+use Rattle.std.proofs.Common.{◌≡◌, ℕ, ◌<◌, ◌≤◌, List, [], ◌++◌, Option, None, Some, IfSome, Bool, true, false, Err, sym, ap, ◌∙◌, subst, inl, inr}
 use Rattle.nm_base.specs.Faults.{IsRisen}
-use Rattle.nm_base.specs.declared.outcome.Status.{Status}
-use Rattle.nm_base.specs.declared.outcome.Status.TheVariants.{Done, Refused, Usage, ReadFault, WriteFault, NoMemory, BadSession, Cut, TooMuch, DoorFault}
 use Rattle.nm_terms.specs.Due.{OrWant}
-use Rattle.nm_session.specs.Answered.{is_ending}
 use Rattle.nm_session.specs.Buffered.{Buffered}
-use Rattle.nm_session.specs.Input.{coming, IsInputStop, PlacedBy, StatusTells}
+use Rattle.nm_session.specs.Ending.{Ending}
+use Rattle.nm_session.specs.Input.{coming, HaltTells}
 use Rattle.nm_session.specs.Limits.{longest_session}
-use Rattle.nm_session.specs.Opening.{CauseBy, HasCause, IsDoneIn, IsEnding, TellsEnding, error_by, opened_by, opened_from, opening_of, store_in, tells_no_ending, wants_memory}
-use Rattle.nm_session.specs.Received.{Received}
+use Rattle.nm_session.specs.Opening.{HasCause, IsDoneIn, TellsEnding, error_of, opened_by, opening_of, store_in, tells_no_ending, wants_memory}
 use Rattle.nm_session.specs.Stream.{Outcome, outcome}
-use Rattle.nm_session.specs.Turns.{NoTurnBy, TakesTurn, TurnStops}
+use Rattle.nm_session.specs.Turns.{NoTurnBy, TakesTurn}
 use Rattle.nm_session.specs.declared.start.OpeningError.{OpeningError}
-use Rattle.nm_session.specs.declared.stop.Stop.{Stop}
+use Rattle.nm_session.specs.declared.halt.Halt.{Halt}
+use Rattle.nm_session.specs.declared.halt.Halt.TheVariants.{BadLine, Cut, TooMuch, ReadFault, NoMemory}
 use Rattle.nm_session.specs.declared.state.State.{State}
 use Rattle.nm_session.specs.declared.state.State.TheVariants.{Empty}
 use Rattle.nm_session.proofs.Sessions.{Standing, at_known, bad_outcome, cut_outcome, done_outcome, first_standing, full_outcome, stands_on}
@@ -23,11 +21,11 @@ pub record Along (stream : List ℕ) (buffered : Buffered) (left : Option (List 
   pub replies : List ℕ
   pub stands : Standing stream buffered left state replies
 
-pub along_first : (input : Received) (left : Option (List ℕ)) (state : State) → input ≡ record { buffered = record { ahead = []; given = 0 }; stopped = None } → state ≡ Empty
-    → IfSome left (λ stream. Along stream input.buffered left state)
-along_first input None state new empty = tt
-along_first input (Some stream) state new empty =
-    subst (λ (h : Received). Along stream h.buffered (Some stream) state) (sym new)
+pub along_first : (ahead : Buffered) (left : Option (List ℕ)) (state : State) → ahead ≡ record { ahead = []; given = 0 } → state ≡ Empty
+    → IfSome left (λ stream. Along stream ahead left state)
+along_first ahead None state new empty = tt
+along_first ahead (Some stream) state new empty =
+    subst (λ (h : Buffered). Along stream h (Some stream) state) (sym new)
     (subst (Along stream (record { ahead = []; given = 0 }) (Some stream)) (sym empty)
     (record { replies = []; stands = first_standing stream }))
 
@@ -51,107 +49,65 @@ along_done stream old new left rest before after reply is_last over along taken 
     let done = done_outcome stream old new left rest before after along.replies reply stands (subst (TakesTurn before after old new stands.bytes rest reply) over turn) in
     record { ending = ap (λ (o : Outcome). o.ending) done; stands = ap (λ (o : Outcome). o.state) done }
 
--- ---- stops
+-- ---- halts
 
-ends_in : (stream : List ℕ) (buffered : Buffered) (left : Option (List ℕ)) (state : State) (replies : List ℕ) (stands : Standing stream buffered left state replies) (status : Status) (at : ℕ)
-    → NoTurnBy status at state buffered stands.bytes → PlacedBy status at → IsTrue (is_ending status) → IsEnding status at (outcome stream)
-ends_in stream buffered left state replies stands BadSession at why placed tells =
-    let bad = bad_outcome stream buffered left state replies at stands why in
-    record { ending = ap (λ (o : Outcome). o.ending) bad; place = ap (λ (o : Outcome). o.at) bad }
-ends_in stream buffered left state replies stands Cut at why placed tells =
-    let cut = cut_outcome stream buffered left state replies at stands why in
-    record { ending = ap (λ (o : Outcome). o.ending) cut; place = ap (λ (o : Outcome). o.at) cut ∙ sym placed }
-ends_in stream buffered left state replies stands TooMuch at why placed tells =
-    let full = full_outcome stream buffered left state replies at stands why in
-    record { ending = ap (λ (o : Outcome). o.ending) full; place = ap (λ (o : Outcome). o.at) full ∙ sym placed }
-ends_in stream buffered left state replies stands ReadFault at why placed tells = cc
-ends_in stream buffered left state replies stands NoMemory at why placed tells = cc
-ends_in stream buffered left state replies stands Done at why placed tells = absurd why
-ends_in stream buffered left state replies stands Refused at why placed tells = absurd why
-ends_in stream buffered left state replies stands Usage at why placed tells = absurd why
-ends_in stream buffered left state replies stands WriteFault at why placed tells = absurd why
-ends_in stream buffered left state replies stands DoorFault at why placed tells = absurd why
+tells_ending : (stream : List ℕ) (buffered : Buffered) (left : Option (List ℕ)) (state : State) (replies : List ℕ) (stands : Standing stream buffered left state replies) (halt : Halt)
+    → NoTurnBy halt state buffered stands.bytes → TellsEnding halt (outcome stream).ending
+tells_ending stream buffered left state replies stands (BadLine at) why = ap (λ (o : Outcome). o.ending) (bad_outcome stream buffered left state replies at stands why)
+tells_ending stream buffered left state replies stands Cut why = ap (λ (o : Outcome). o.ending) (cut_outcome stream buffered left state replies stands why)
+tells_ending stream buffered left state replies stands TooMuch why = ap (λ (o : Outcome). o.ending) (full_outcome stream buffered left state replies stands why)
+tells_ending stream buffered left state replies stands ReadFault why = tt
+tells_ending stream buffered left state replies stands NoMemory why = tt
 
-pub along_stopped : (stream : List ℕ) (buffered : Buffered) (left : Option (List ℕ)) (state : State) (stop : Stop) → Along stream buffered left state
-    → IfSome (coming buffered left) (λ bytes. TurnStops stop state buffered bytes) → IsInputStop stop → TellsEnding stop (outcome stream)
-along_stopped stream buffered left state stop along why placed =
-    ends_in stream buffered left state along.replies along.stands stop.status stop.at (at_known (λ bytes. TurnStops stop state buffered bytes) along.stands.known why) placed
+pub along_halted : (stream : List ℕ) (buffered : Buffered) (left : Option (List ℕ)) (state : State) (halt : Halt) → Along stream buffered left state
+    → IfSome (coming buffered left) (λ bytes. NoTurnBy halt state buffered bytes) → TellsEnding halt (outcome stream).ending
+along_halted stream buffered left state halt along why =
+    tells_ending stream buffered left state along.replies along.stands halt (at_known (λ bytes. NoTurnBy halt state buffered bytes) along.stands.known why)
 
 -- ---- errors
 
-opened_so : (status : Status) (at : ℕ) (due : Outcome) → PlacedBy status at → IsEnding status at due → opened_from due ≡ Err (error_by status at)
-opened_so BadSession at due placed is = ap (λ (s : Status). opened_by s due.state due.at) is.ending ∙ ap (λ (n : ℕ). opened_by BadSession due.state n) is.place
-opened_so Cut at due placed is = ap (λ (s : Status). opened_by s due.state due.at) is.ending ∙ ap (λ (n : ℕ). opened_by Cut due.state n) is.place
-opened_so TooMuch at due placed is = ap (λ (s : Status). opened_by s due.state due.at) is.ending ∙ ap (λ (n : ℕ). opened_by TooMuch due.state n) is.place
-opened_so ReadFault at due placed is = ap (λ (s : Status). opened_by s due.state due.at) is.ending ∙ ap (λ (n : ℕ). opened_by ReadFault due.state n) is.place
-opened_so NoMemory at due placed is = ap (λ (s : Status). opened_by s due.state due.at) is.ending ∙ ap (λ (n : ℕ). opened_by NoMemory due.state n) is.place
-opened_so Done at due placed is = absurd placed
-opened_so Refused at due placed is = absurd placed
-opened_so Usage at due placed is = absurd placed
-opened_so WriteFault at due placed is = absurd placed
-opened_so DoorFault at due placed is = absurd placed
+-- what a halt tells of its stream is due
+opened_unless : (halt : Halt) (ending : Ending) (state : State) → TellsEnding halt ending → OrWant (tells_no_ending (error_of halt)) (opened_by ending state ≡ Err (error_of halt))
+opened_unless (BadLine at) ending state tells = ap (λ (e : Ending). opened_by e state) tells
+opened_unless Cut ending state tells = ap (λ (e : Ending). opened_by e state) tells
+opened_unless TooMuch ending state tells = ap (λ (e : Ending). opened_by e state) tells
+opened_unless ReadFault ending state tells = tt
+opened_unless NoMemory ending state tells = tt
 
--- what a stop tells of its stream is due
-opened_unless : (status : Status) (at : ℕ) (due : Outcome) → PlacedBy status at → (IsTrue (is_ending status) → IsEnding status at due)
-    → OrWant (tells_no_ending (error_by status at)) (opened_from due ≡ Err (error_by status at))
-opened_unless BadSession at due placed tells = opened_so BadSession at due placed (tells refl)
-opened_unless Cut at due placed tells = opened_so Cut at due placed (tells refl)
-opened_unless TooMuch at due placed tells = opened_so TooMuch at due placed (tells refl)
-opened_unless ReadFault at due placed tells = tt
-opened_unless NoMemory at due placed tells = tt
-opened_unless Done at due placed tells = absurd placed
-opened_unless Refused at due placed tells = absurd placed
-opened_unless Usage at due placed tells = absurd placed
-opened_unless WriteFault at due placed tells = absurd placed
-opened_unless DoorFault at due placed tells = absurd placed
-
-pub opened_stop : (known : Option (List ℕ)) (stop : Stop) (error : OpeningError) → error ≡ error_by stop.status stop.at → IsInputStop stop → IfSome known (λ stream. TellsEnding stop (outcome stream))
+pub opened_halted : (known : Option (List ℕ)) (halt : Halt) (error : OpeningError) → error ≡ error_of halt → IfSome known (λ stream. TellsEnding halt (outcome stream).ending)
     → IfSome known (λ stream. OrWant (tells_no_ending error) (opening_of stream ≡ Err error))
-opened_stop None stop error is placed tells = tt
-opened_stop (Some stream) stop error is placed tells =
-    subst (λ (e : OpeningError). OrWant (tells_no_ending e) (opening_of stream ≡ Err e)) (sym is) (opened_unless stop.status stop.at (outcome stream) placed tells)
+opened_halted None halt error is tells = tt
+opened_halted (Some stream) halt error is tells =
+    subst (λ (e : OpeningError). OrWant (tells_no_ending e) (opening_of stream ≡ Err e)) (sym is) (opened_unless halt (outcome stream).ending (outcome stream).state tells)
 
 -- without a fault of the source
-unless_fault : (status : Status) (at : ℕ) (before after : ℕ) (left : Option (List ℕ)) (claim : Type 0) → CauseBy status at before after left → (IsRisen before after → ⊥) → OrWant (tells_no_ending (error_by status at)) claim
-    → OrWant (wants_memory (error_by status at)) claim
-unless_fault ReadFault at before after left claim cause unrisen due = absurd (unrisen cause.1)
-unless_fault NoMemory at before after left claim cause unrisen due = tt
-unless_fault Refused at before after left claim cause unrisen due = due
-unless_fault BadSession at before after left claim cause unrisen due = due
-unless_fault Cut at before after left claim cause unrisen due = due
-unless_fault TooMuch at before after left claim cause unrisen due = due
-unless_fault Done at before after left claim cause unrisen due = absurd cause
-unless_fault Usage at before after left claim cause unrisen due = absurd cause
-unless_fault WriteFault at before after left claim cause unrisen due = absurd cause
-unless_fault DoorFault at before after left claim cause unrisen due = absurd cause
+halted_unless_fault : (halt : Halt) (before after : ℕ) (left : Option (List ℕ)) (claim : Type 0) → HaltTells halt before after left → (IsRisen before after → ⊥) → OrWant (tells_no_ending (error_of halt)) claim
+    → OrWant (wants_memory (error_of halt)) claim
+halted_unless_fault ReadFault before after left claim tells unrisen due = absurd (unrisen tells)
+halted_unless_fault NoMemory before after left claim tells unrisen due = tt
+halted_unless_fault (BadLine at) before after left claim tells unrisen due = due
+halted_unless_fault Cut before after left claim tells unrisen due = due
+halted_unless_fault TooMuch before after left claim tells unrisen due = due
+
+unless_fault : (error : OpeningError) (before after : ℕ) (left : Option (List ℕ)) (claim : Type 0) → HasCause error before after left → (IsRisen before after → ⊥) → OrWant (tells_no_ending error) claim
+    → OrWant (wants_memory error) claim
+unless_fault error before after left claim (inl none) unrisen due =
+    subst (λ (e : OpeningError). OrWant (wants_memory e) claim) (sym none.0) (subst (λ (e : OpeningError). OrWant (tells_no_ending e) claim) none.0 due)
+unless_fault error before after left claim (inr halted) unrisen due =
+    subst (λ (e : OpeningError). OrWant (wants_memory e) claim) (sym halted.1)
+    (halted_unless_fault halted.0 before after left claim halted.2 unrisen (subst (λ (e : OpeningError). OrWant (tells_no_ending e) claim) halted.1 due))
 
 pub complete_error : (known : Option (List ℕ)) (error : OpeningError) (before after : ℕ) (left : Option (List ℕ)) → HasCause error before after left
     → IfSome known (λ stream. OrWant (tells_no_ending error) (opening_of stream ≡ Err error))
     → IfSome known (λ stream. (IsRisen before after → ⊥) → OrWant (wants_memory error) (opening_of stream ≡ Err error))
 complete_error None error before after left cause due = tt
-complete_error (Some stream) error before after left cause due = λ unrisen.
-    unless_fault error.status error.at before after left (opening_of stream ≡ Err error) cause unrisen due
+complete_error (Some stream) error before after left cause due = λ unrisen. unless_fault error before after left (opening_of stream ≡ Err error) cause unrisen due
 
--- the cause of a stop
-cause_by : (status : Status) (at before after : ℕ) (left : Option (List ℕ)) → PlacedBy status at → StatusTells status before after left → CauseBy status at before after left
-cause_by ReadFault at before after left placed tells = (placed, tells)
-cause_by NoMemory at before after left placed tells = (placed, tells)
-cause_by Cut at before after left placed tells = (placed, tells.0, tells.1)
-cause_by TooMuch at before after left placed tells = (placed, tells)
-cause_by BadSession at before after left placed tells = tells
-cause_by Done at before after left placed tells = absurd placed
-cause_by Refused at before after left placed tells = absurd placed
-cause_by Usage at before after left placed tells = absurd placed
-cause_by WriteFault at before after left placed tells = absurd placed
-cause_by DoorFault at before after left placed tells = absurd placed
-
-pub stop_cause : (stop : Stop) (error : OpeningError) (before after : ℕ) (left : Option (List ℕ)) → error ≡ error_by stop.status stop.at → IsInputStop stop → StatusTells stop.status before after left
-    → HasCause error before after left
-stop_cause stop error before after left is placed tells =
-    subst (λ (e : OpeningError). HasCause e before after left) (sym is) (cause_by stop.status stop.at before after left placed tells)
+-- the cause of a halt
+pub halted_cause : (halt : Halt) (error : OpeningError) (before after : ℕ) (left : Option (List ℕ)) → error ≡ error_of halt → HaltTells halt before after left → HasCause error before after left
+halted_cause halt error before after left is tells = inr (halt, is, tells)
 
 -- a stream that was read to its end gives the store that the session stands in
 pub opened_done : (known : Option (List ℕ)) (state : State) → IfSome known (λ stream. IsDoneIn (outcome stream) state) → IfSome known (λ stream. opening_of stream ≡ store_in state)
 opened_done None state done = tt
-opened_done (Some stream) state done =
-    ap (λ (s : Status). opened_by s (outcome stream).state (outcome stream).at) done.ending ∙ ap store_in done.stands
+opened_done (Some stream) state done = ap (λ (e : Ending). opened_by e (outcome stream).state) done.ending ∙ ap store_in done.stands

@@ -1,10 +1,11 @@
 -- Short streams, with their replies and endings.
 use Rattle.std.proofs.Common.{◌≡◌, ℕ, List, [], ◌∷◌, ◌++◌, codes, None, Some, Ok, Err, refl, lit<, lit≤}
 use Rattle.std.specs.Prelude.{replicate}
-use Rattle.nm_base.specs.declared.outcome.Status.TheVariants.{Done, Refused, ReadFault, BadSession, Cut}
+use Rattle.nm_base.specs.declared.outcome.Status.TheVariants as statuses
 use Rattle.nm_day.specs.Day.{is_day}
 use Rattle.nm_version.specs.Kept.{Kept}
 use Rattle.nm_session.specs.Answered.{AppendsPrefix, HasCause}
+use Rattle.nm_session.specs.Ending.{Ended, Cut}
 use Rattle.nm_session.specs.Input.{GivesLine}
 use Rattle.nm_session.specs.Opening.{error_by, opened_from, opening_of}
 use Rattle.nm_session.specs.Reply.{numbered}
@@ -45,7 +46,7 @@ end_comes kept = refl
 -- ---- short streams
 
 -- a session of nothing but its end; what follows the end is not looked at
-only_end : outcome (codes "end" ++ 10 ∷ codes "?") ≡ record { replies = numbered (codes "end") 0; ending = Done; state = Empty; at = 0 }
+only_end : outcome (codes "end" ++ 10 ∷ codes "?") ≡ record { replies = numbered (codes "end") 0; ending = Ended; state = Empty }
 unfolding outcome_within word_of
 only_end = refl
 
@@ -77,24 +78,24 @@ one_of_two : AppendsPrefix (Some (1 ∷ [])) (Some (1 ∷ 2 ∷ [])) (2 ∷ 3 �
 one_of_two = (1, refl)
 
 -- a fault is told where its count rose, and the other stayed
-told : HasCause ReadFault 4 5 0 0 None
+told : HasCause statuses.ReadFault 4 5 0 0 None
 told = (lit≤ tt, refl)
 
 -- what is cut was taken whole
-taken_whole : HasCause Cut 4 4 0 0 (Some [])
+taken_whole : HasCause statuses.Cut 4 4 0 0 (Some [])
 taken_whole = ((refl, refl), refl)
 
 -- ---- what a stream opens
 
-no_base_accepted : opening_of (codes "end" ++ 10 ∷ []) ≡ Err (error_by Refused 0)
+no_base_accepted : opening_of (codes "end" ++ 10 ∷ []) ≡ Err (error_by statuses.Refused 0)
 unfolding outcome_within word_of
 no_base_accepted = refl
 
-no_command : opening_of (codes "summary 2024-01-01" ++ 10 ∷ []) ≡ Err (error_by BadSession 0)
+no_command : opening_of (codes "summary 2024-01-01" ++ 10 ∷ []) ≡ Err (error_by statuses.BadSession 0)
 unfolding outcome_within word_of dated_line is_day
 no_command = refl
 
-cut_short : opening_of (codes "base 3" ++ 10 ∷ codes "ab") ≡ Err (error_by Cut 0)
+cut_short : opening_of (codes "base 3" ++ 10 ∷ codes "ab") ≡ Err (error_by statuses.Cut 0)
 unfolding outcome_within word_of length_of
 cut_short = refl
 

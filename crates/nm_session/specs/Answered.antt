@@ -4,6 +4,7 @@ use Rattle.std.specs.Io.KnownBytes.{Appends, IsAtEnd}
 use Rattle.nm_base.specs.Faults.{IsRisen}
 use Rattle.nm_base.specs.declared.outcome.Status.{Status}
 use Rattle.nm_base.specs.declared.outcome.Status.TheVariants.{Done, Refused, Usage, ReadFault, WriteFault, NoMemory, BadSession, Cut, TooMuch, DoorFault}
+use Rattle.nm_session.specs.Ending.{status_at}
 use Rattle.nm_session.specs.Stream.{Outcome, outcome}
 
 -- what is due of an input: what is written of it, and how that ends
@@ -13,7 +14,7 @@ pub record Due : Type 0 where
 
 -- .. of a session stream
 abbrev pub due_of : Outcome → Due
-due_of outcome = record { replies = outcome.replies; ending = outcome.ending }
+due_of outcome = record { replies = outcome.replies; ending = status_at outcome.ending }
 
 -- known bytes grow by some of the first of these, or by all of them
 abbrev pub AppendsPrefix : Option (List ℕ) → Option (List ℕ) → List ℕ → Type 0

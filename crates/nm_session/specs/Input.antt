@@ -2,17 +2,18 @@
 use Rattle.std.specs.Prelude.{◌≡◌, ℕ, ◌+◌, ◌-◌, ◌<◌, ◌≤◌, List, [], ◌∷◌, ◌++◌, length, take, Option, None, Some, position, IfSome, Result, Ok, Err, IfErr, OnOk}
 use Rattle.std.specs.Io.KnownBytes.{prepend_known, Consumes, IsAtEnd}
 use Rattle.nm_base.specs.Faults.{IsRisen}
-use Rattle.nm_base.specs.declared.outcome.Status.{Status}
-use Rattle.nm_base.specs.declared.outcome.Status.TheVariants.{Done, Refused, Usage, ReadFault, WriteFault, NoMemory, BadSession, Cut, TooMuch, DoorFault}
 use Rattle.nm_reader.specs.Input.{IsDocumentOf}
 use Rattle.nm_reader.specs.Read.{read_due}
 use Rattle.nm_reader.specs.declared.error.ReadError.TheVariants as read_error
 use Rattle.nm_session.specs.Buffered.{Buffered}
+use Rattle.nm_session.specs.Halts.{stop_of}
 use Rattle.nm_session.specs.Limits.{longest_line, longest_session}
 use Rattle.nm_session.specs.Received.{Received}
 use Rattle.nm_session.specs.Stream.{is_line_feed, line_end}
 use Rattle.nm_session.specs.declared.body.Spelling.{Spelling}
 use Rattle.nm_session.specs.declared.body.Spelling.TheVariants.{Good, Bad}
+use Rattle.nm_session.specs.declared.halt.Halt.{Halt}
+use Rattle.nm_session.specs.declared.halt.Halt.TheVariants.{BadLine, Cut, TooMuch, ReadFault, NoMemory}
 use Rattle.nm_session.specs.declared.stop.Stop.{Stop}
 
 -- the bytes that still come, where the source tells what it has left: those buffered, and then those left
@@ -60,87 +61,62 @@ pub record IsLongLine (rest : List ℕ) : Type 0 where
   pub none : line_end rest ≡ None
 
 -- why no line was given
-abbrev pub NoLineBy : Status → ℕ → Buffered → Option (List ℕ) → Type 0
-NoLineBy BadSession at buffered left =
+abbrev pub NoLineBy : Halt → Buffered → Option (List ℕ) → Type 0
+NoLineBy (BadLine at) buffered left =
     (at ≡ buffered.given) × IfSome (coming buffered left) (λ bytes. IsLongLine (in_session buffered bytes))
-NoLineBy TooMuch at buffered left =
+NoLineBy TooMuch buffered left =
     IfSome (coming buffered left) (λ bytes. HasNoLine (in_session buffered bytes) × (longest_session ≤ buffered.given + length bytes))
-NoLineBy Cut at buffered left =
+NoLineBy Cut buffered left =
     IfSome (coming buffered left) (λ bytes. HasNoLine (in_session buffered bytes) × (buffered.given + length bytes < longest_session))
-NoLineBy ReadFault at buffered left = Unit {0}
-NoLineBy NoMemory at buffered left = Unit {0}
-NoLineBy Done at buffered left = ⊥
-NoLineBy Refused at buffered left = ⊥
-NoLineBy Usage at buffered left = ⊥
-NoLineBy WriteFault at buffered left = ⊥
-NoLineBy DoorFault at buffered left = ⊥
-
-abbrev pub LineStops : Stop → Buffered → Option (List ℕ) → Type 0
-LineStops stop buffered left = NoLineBy stop.status stop.at buffered left
+NoLineBy ReadFault buffered left = Unit {0}
+NoLineBy NoMemory buffered left = Unit {0}
 
 -- why the `len` bytes of a document were not given
-abbrev pub NoBodyBy : Status → ℕ → Buffered → Option (List ℕ) → Type 0
+abbrev pub NoBodyBy : Halt → ℕ → Buffered → Option (List ℕ) → Type 0
 NoBodyBy TooMuch len buffered left =
     IfSome (coming buffered left) (λ bytes. (length (in_session buffered bytes) < len) × (longest_session ≤ buffered.given + length bytes))
 NoBodyBy Cut len buffered left =
     IfSome (coming buffered left) (λ bytes. (length (in_session buffered bytes) < len) × (buffered.given + length bytes < longest_session))
 NoBodyBy ReadFault len buffered left = Unit {0}
 NoBodyBy NoMemory len buffered left = Unit {0}
-NoBodyBy BadSession len buffered left = ⊥
-NoBodyBy Done len buffered left = ⊥
-NoBodyBy Refused len buffered left = ⊥
-NoBodyBy Usage len buffered left = ⊥
-NoBodyBy WriteFault len buffered left = ⊥
-NoBodyBy DoorFault len buffered left = ⊥
+NoBodyBy (BadLine at) len buffered left = ⊥
 
-abbrev pub BodyStops : Stop → ℕ → Buffered → Option (List ℕ) → Type 0
-BodyStops stop len buffered left = NoBodyBy stop.status len buffered left
+-- what a halt tells of the source: that its count of faults rose, and else that it stayed, and at a cut that nothing
+-- is left
+abbrev pub HaltTells : Halt → ℕ → ℕ → Option (List ℕ) → Type 0
+HaltTells ReadFault before after left = IsRisen before after
+HaltTells Cut before after left = (after ≡ before) × IsAtEnd left
+HaltTells NoMemory before after left = after ≡ before
+HaltTells (BadLine at) before after left = after ≡ before
+HaltTells TooMuch before after left = after ≡ before
 
--- the statuses that an input can stop with. A place is that of a bad line, and 0 with any other status
-abbrev pub PlacedBy : Status → ℕ → Type 0
-PlacedBy BadSession at = Unit {0}
-PlacedBy ReadFault at = at ≡ 0
-PlacedBy NoMemory at = at ≡ 0
-PlacedBy Cut at = at ≡ 0
-PlacedBy TooMuch at = at ≡ 0
-PlacedBy Done at = ⊥
-PlacedBy Refused at = ⊥
-PlacedBy Usage at = ⊥
-PlacedBy WriteFault at = ⊥
-PlacedBy DoorFault at = ⊥
+-- the count of a source's faults never falls, and stays unless a halt tells of a fault
+pub record CountsReads {T : Type 0} (before after : ℕ) (left : Option (List ℕ)) (result : Result T Halt) : Type 0 where
+  pub kept : before ≤ after
+  pub stays : OnOk result (after ≡ before)
+  pub tells : IfErr result (λ halt. HaltTells halt before after left)
 
-abbrev pub IsInputStop : Stop → Type 0
-IsInputStop stop = PlacedBy stop.status stop.at
+-- ---- an input, which answers its first stop from then on
 
--- an input that has stopped keeps its stop and its offset
-pub record StopsAt (old new : Received) (stop : Stop) : Type 0 where
-  pub kept : new.stopped ≡ Some stop
+-- it keeps why it gives nothing more, which is so, and its offset; the stop tells it
+pub record StopsBy (old new : Received) (stop : Stop) (why : Halt → Type 0) : Type 0 where
+  pub halt : Halt
+  pub kept : new.halted ≡ Some halt
   pub given : new.buffered.given ≡ old.buffered.given
-  pub placed : IsInputStop stop
+  pub told : stop ≡ stop_of halt
+  pub because : why halt
 
--- .. and answers it again, with nothing read
-pub record StopsAgain {T : Type 0} (earlier : Stop) (result : Result T Stop) (old new : Received) (before after : Option (List ℕ)) (reads_before reads_after : ℕ) : Type 0 where
-  pub again : result ≡ Err earlier
+-- an earlier stop is answered again, with nothing read
+pub record StopsAgain {T : Type 0} (earlier : Halt) (result : Result T Stop) (old new : Received) (before after : Option (List ℕ)) (reads_before reads_after : ℕ) : Type 0 where
+  pub again : result ≡ Err (stop_of earlier)
   pub same : new ≡ old
   pub unread : after ≡ before
   pub faults : reads_after ≡ reads_before
 
--- what a stop of an input tells of the source: that its count of faults rose, and else that it stayed, and at a cut
--- that nothing is left
-abbrev pub StatusTells : Status → ℕ → ℕ → Option (List ℕ) → Type 0
-StatusTells ReadFault before after left = IsRisen before after
-StatusTells Cut before after left = (after ≡ before) × IsAtEnd left
-StatusTells NoMemory before after left = after ≡ before
-StatusTells BadSession before after left = after ≡ before
-StatusTells TooMuch before after left = after ≡ before
-StatusTells Done before after left = ⊥
-StatusTells Refused before after left = ⊥
-StatusTells Usage before after left = ⊥
-StatusTells WriteFault before after left = ⊥
-StatusTells DoorFault before after left = ⊥
+-- why no line was given, and what that tells of the source
+abbrev pub LineStops : Buffered → Option (List ℕ) → Option (List ℕ) → ℕ → ℕ → Halt → Type 0
+LineStops buffered before after reads_before reads_after halt = NoLineBy halt buffered before × HaltTells halt reads_before reads_after after
 
--- the count of a source's faults never falls, and stays unless a stop tells of a fault, or it is an earlier one
-pub record CountsReads {T : Type 0} (stopped : Option Stop) (before after : ℕ) (left : Option (List ℕ)) (result : Result T Stop) : Type 0 where
-  pub kept : before ≤ after
-  pub stays : OnOk result (after ≡ before)
-  pub tells : stopped ≡ None → IfErr result (λ stop. StatusTells stop.status before after left)
+-- .. and why no document of `len` bytes was
+abbrev pub BodyStops : ℕ → Buffered → Option (List ℕ) → Option (List ℕ) → ℕ → ℕ → Halt → Type 0
+BodyStops len buffered before after reads_before reads_after halt = NoBodyBy halt len buffered before × HaltTells halt reads_before reads_after after

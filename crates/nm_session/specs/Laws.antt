@@ -1,10 +1,10 @@
 -- What the definitions of this crate keep to.
 use Rattle.std.specs.Prelude.{◌≡◌, ℕ, ◌+◌, List, [], ◌∷◌, ◌++◌, Ok, codes}
-use Rattle.nm_base.specs.declared.outcome.Status.TheVariants.{Done}
 use Rattle.nm_version.specs.After.{IsReached}
 use Rattle.nm_version.specs.Kept.{Kept}
 use Rattle.nm_version.specs.Listing.{log_of}
 use Rattle.nm_version.specs.declared.command.Entry.{Entry}
+use Rattle.nm_session.specs.Ending.{Ended}
 use Rattle.nm_session.specs.Opening.{opening_of}
 use Rattle.nm_session.specs.Reply.{numbered}
 use Rattle.nm_session.specs.Stream.{Outcome, outcome}
@@ -17,7 +17,7 @@ replies_behind number (entry ∷ entries) = numbered (codes "ok") (number + 1) +
 
 -- a session that ends where this is kept, with these replies
 abbrev pub ended_with : List ℕ → Kept → Outcome
-ended_with replies kept = record { replies = replies; ending = Done; state = Store kept; at = 0 }
+ended_with replies kept = record { replies = replies; ending = Ended; state = Store kept }
 
 -- the log is a stream whose base and commands are accepted, one after another, and at its end the same is kept again
 abbrev pub LogsOpenAgain : Type 0

@@ -1,46 +1,45 @@
 -- What comes of a stream from which a store is opened.
-use Rattle.std.specs.Prelude.{◌≡◌, ℕ, List, Bool, true, false, not, Option, Result, Ok, Err, IsTrue}
-use Rattle.std.specs.Io.KnownBytes.{IsAtEnd}
-use Rattle.nm_base.specs.Faults.{IsRisen}
+use Rattle.std.specs.Prelude.{◌≡◌, ℕ, List, Bool, true, false, not, Option, Result, Ok, Err, ◌⊎◌}
 use Rattle.nm_base.specs.declared.outcome.Status.{Status}
 use Rattle.nm_base.specs.declared.outcome.Status.TheVariants.{Done, Refused, Usage, ReadFault, WriteFault, NoMemory, BadSession, Cut, TooMuch, DoorFault}
 use Rattle.nm_version.specs.Kept.{Kept}
 use Rattle.nm_session.specs.Answered.{is_ending}
+use Rattle.nm_session.specs.Ending.{Ending}
+use Rattle.nm_session.specs.Ending as endings
+use Rattle.nm_session.specs.Halts.{place_of, status_of}
+use Rattle.nm_session.specs.Input.{HaltTells}
 use Rattle.nm_session.specs.Stream.{Outcome, outcome}
+use Rattle.nm_session.specs.declared.halt.Halt.{Halt}
+use Rattle.nm_session.specs.declared.halt.Halt.TheVariants as halts
 use Rattle.nm_session.specs.declared.start.OpeningError.{OpeningError}
-use Rattle.nm_session.specs.declared.stop.Stop.{Stop}
 use Rattle.nm_session.specs.declared.state.State.{State}
 use Rattle.nm_session.specs.declared.state.State.TheVariants.{Empty, Store}
 
 abbrev pub error_by : Status → ℕ → OpeningError
 error_by status at = record { status = status; at = at }
 
-abbrev pub error_of : Stop → OpeningError
-error_of stop = error_by stop.status stop.at
+-- the error where nothing more is taken of a stream
+abbrev pub error_of : Halt → OpeningError
+error_of halt = error_by (status_of halt) (place_of halt)
 
-abbrev pub no_memory : OpeningError
-no_memory = error_by NoMemory 0
+-- .. and where it was read to its end
+abbrev pub no_base : OpeningError
+no_base = error_by Refused 0
 
--- at the end of a session: its store, where a base was accepted
+-- behind the last command: the store, where a base was accepted
 abbrev pub store_in : State → Result Kept OpeningError
 store_in (Store kept) = Ok kept
-store_in Empty = Err (error_by Refused 0)
+store_in Empty = Err no_base
 
 -- at each ending
-abbrev pub opened_by : Status → State → ℕ → Result Kept OpeningError
-opened_by Done state at = store_in state
-opened_by Refused state at = Err (error_by Refused at)
-opened_by Usage state at = Err (error_by Usage at)
-opened_by ReadFault state at = Err (error_by ReadFault at)
-opened_by WriteFault state at = Err (error_by WriteFault at)
-opened_by NoMemory state at = Err (error_by NoMemory at)
-opened_by BadSession state at = Err (error_by BadSession at)
-opened_by Cut state at = Err (error_by Cut at)
-opened_by TooMuch state at = Err (error_by TooMuch at)
-opened_by DoorFault state at = Err (error_by DoorFault at)
+abbrev pub opened_by : Ending → State → Result Kept OpeningError
+opened_by endings.Ended state = store_in state
+opened_by (endings.AtBadLine at) state = Err (error_by BadSession at)
+opened_by endings.Cut state = Err (error_by Cut 0)
+opened_by endings.TooMuch state = Err (error_by TooMuch 0)
 
 abbrev pub opened_from : Outcome → Result Kept OpeningError
-opened_from outcome = opened_by outcome.ending outcome.state outcome.at
+opened_from outcome = opened_by outcome.ending outcome.state
 
 -- the store that a stream gives, or why it gives none
 abbrev pub opening_of : List ℕ → Result Kept OpeningError
@@ -65,33 +64,22 @@ is_no_memory DoorFault = false
 abbrev pub wants_memory : OpeningError → Bool
 wants_memory error = is_no_memory error.status
 
--- a fault is told where the count of the source's faults rose, and there alone; a stream that is cut was taken whole.
--- A place is that of a bad line, and 0 with any other status; an opening tells nothing of a sink, of a command line or
--- of a listener
-abbrev pub CauseBy : Status → ℕ → ℕ → ℕ → Option (List ℕ) → Type 0
-CauseBy ReadFault at before after left = (at ≡ 0) × IsRisen before after
-CauseBy Cut at before after left = (at ≡ 0) × (after ≡ before) × IsAtEnd left
-CauseBy Refused at before after left = (at ≡ 0) × (after ≡ before)
-CauseBy NoMemory at before after left = (at ≡ 0) × (after ≡ before)
-CauseBy TooMuch at before after left = (at ≡ 0) × (after ≡ before)
-CauseBy BadSession at before after left = after ≡ before
-CauseBy Done at before after left = ⊥
-CauseBy Usage at before after left = ⊥
-CauseBy WriteFault at before after left = ⊥
-CauseBy DoorFault at before after left = ⊥
-
+-- an error is that no base was accepted, of a source that did not fail, or it tells why nothing more was taken of the
+-- stream. Then a fault is told where the count of the source's faults rose, and there alone, and a stream that is cut
+-- was taken whole
 abbrev pub HasCause : OpeningError → ℕ → ℕ → Option (List ℕ) → Type 0
-HasCause error before after left = CauseBy error.status error.at before after left
+HasCause error before after left =
+    ((error ≡ no_base) × (after ≡ before)) ⊎ (halt : Halt) × (error ≡ error_of halt) × HaltTells halt before after left
 
 -- the stream was read to its end, and this is what the session stands in then
 pub record IsDoneIn (due : Outcome) (state : State) : Type 0 where
-  pub ending : due.ending ≡ Done
+  pub ending : due.ending ≡ endings.Ended
   pub stands : due.state ≡ state
 
--- a stop that tells of the stream tells its ending
-pub record IsEnding (status : Status) (at : ℕ) (due : Outcome) : Type 0 where
-  pub ending : due.ending ≡ status
-  pub place : due.at ≡ at
-
-abbrev pub TellsEnding : Stop → Outcome → Type 0
-TellsEnding stop due = IsTrue (is_ending stop.status) → IsEnding stop.status stop.at due
+-- a halt that tells of the stream tells its ending
+abbrev pub TellsEnding : Halt → Ending → Type 0
+TellsEnding (halts.BadLine at) ending = ending ≡ endings.AtBadLine at
+TellsEnding halts.Cut ending = ending ≡ endings.Cut
+TellsEnding halts.TooMuch ending = ending ≡ endings.TooMuch
+TellsEnding halts.ReadFault ending = Unit {0}
+TellsEnding halts.NoMemory ending = Unit {0}

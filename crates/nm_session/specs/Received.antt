@@ -1,8 +1,8 @@
--- What an input holds: what it has read ahead and given, and the stop that it answers from then on.
+-- What an input holds: what it has read ahead and given, and why it gives nothing more, once it does not.
 use Rattle.std.specs.Prelude.{Option}
 use Rattle.nm_session.specs.Buffered.{Buffered}
-use Rattle.nm_session.specs.declared.stop.Stop.{Stop}
+use Rattle.nm_session.specs.declared.halt.Halt.{Halt}
 
 pub record Received : Type 0 where
   pub buffered : Buffered
-  pub stopped : Option Stop
+  pub halted : Option Halt

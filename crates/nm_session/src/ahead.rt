@@ -1,15 +1,15 @@
 // What is read ahead of a session, and given as lines and documents.
 ghost use Rattle.std.specs.Prelude.{◌≡◌, ◌≢◌, ◌+◌, ◌-◌, ◌<◌, ◌≤◌, [], ◌++◌, length, take, drop, min, None, position, IfOk, IfErr, OnErr, OnOk};
-ghost use Rattle.std.specs.Io.KnownBytes.{Consumes};
+ghost use Rattle.std.specs.Io.KnownBytes.{Consumes, IsAtEnd};
 ghost use Rattle.nm_session.specs.Limits.{longest_line, longest_session};
 ghost use Rattle.nm_session.specs.Stream.{is_line_feed};
 ghost use Rattle.nm_session.specs.Buffered.{Buffered};
-ghost use Rattle.nm_session.specs.Ahead.{ReadsAhead, ReadLacks, AheadLacks, SeekLacks, LineLacks, BodyLacks, CountsLacks};
-ghost use Rattle.nm_session.specs.Input.{GivesLine, GivesSpelling};
-ghost use Rattle.nm_session.specs.declared.lack.Lack.TheVariants.{LongLine, TooMuch};
+ghost use Rattle.nm_session.specs.Ahead.{FewerCome, NoLineFeedComes, ReadsAhead, ReadsNoMore};
+ghost use Rattle.nm_session.specs.Input.{CountsReads, GivesLine, GivesSpelling, NoBodyBy, NoLineBy};
+ghost use Rattle.nm_session.specs.declared.halt.Halt.TheVariants.{BadLine, TooMuch};
 
 use crate::body::Spelling;
-use crate::lack::Lack;
+use crate::halt::Halt;
 use crate::limits::{LONGEST_LINE, LONGEST_SESSION};
 use nm_base::{NoMemory, Source};
 use std::alloc::Global;
@@ -63,13 +63,13 @@ impl Ahead {
 
     /// The next line without its line feed.
     ///
-    /// `LongLine` where more than 256 bytes come before a line feed, `TooMuch` where the session may
+    /// `BadLine` where more than 256 bytes come before a line feed, `TooMuch` where the session may
     /// take no more bytes, and `Cut` where the source ends before.
-    pub fn next_line<S: Source>(&mut self, alloc: Global, source: &mut S) -> Result<Vec<u8>, Lack>
+    pub fn next_line<S: Source>(&mut self, alloc: Global, source: &mut S) -> Result<Vec<u8>, Halt>
         ensures line { IfOk result (λ line. GivesLine self.old self.new (S.left source.old) (S.left source.new) line.items) }
-        ensures lack { IfErr result (λ lack. LineLacks lack self.old (S.left source.old)) }
+        ensures why { IfErr result (λ halt. NoLineBy halt self.old (S.left source.old)) }
         ensures stays { OnErr result (self.new.given ≡ self.old.given) }
-        ensures counted { CountsLacks (S.faults source.old) (S.faults source.new) (S.left source.new) result }
+        ensures counted { CountsReads (S.faults source.old) (S.faults source.new) (S.left source.new) result }
         ensures beside_stays { S.beside source.new ≡ S.beside source.old }
     {
         let room = self.room(LINE_ROOM);
@@ -91,17 +91,17 @@ impl Ahead {
         alloc: Global,
         source: &mut S,
         len: u64,
-    ) -> Result<Spelling, Lack>
+    ) -> Result<Spelling, Halt>
         ensures spelling { IfOk result (λ spelling. GivesSpelling self.old self.new (S.left source.old) (S.left source.new) len spelling) }
-        ensures lack { IfErr result (λ lack. BodyLacks lack len self.old (S.left source.old)) }
+        ensures why { IfErr result (λ halt. NoBodyBy halt len self.old (S.left source.old)) }
         ensures stays { OnErr result (self.new.given ≡ self.old.given) }
-        ensures counted { CountsLacks (S.faults source.old) (S.faults source.new) (S.left source.new) result }
+        ensures counted { CountsReads (S.faults source.old) (S.faults source.new) (S.left source.new) result }
         ensures beside_stays { S.beside source.new ≡ S.beside source.old }
     {
         let room = self.room(len);
         self.read_ahead(alloc, source, room)?;
         if (room as u64) < len {
-            return Err(Lack::TooMuch);
+            return Err(Halt::TooMuch);
         }
         let body = self.front(alloc, room)?;
         let spelling = Spelling::read(alloc, body)?;
@@ -118,14 +118,14 @@ impl Ahead {
     }
 
     /// Why no line ends within the room that there is.
-    fn no_line(&self, room: usize) -> Lack
-        ensures long { room ≡ longest_line + 1 → result ≡ LongLine }
+    fn no_line(&self, room: usize) -> Halt
+        ensures long { room ≡ longest_line + 1 → result ≡ BadLine self.now.given }
         ensures full { room ≢ longest_line + 1 → result ≡ TooMuch }
     {
         if room == LINE_ROOM as usize {
-            Lack::LongLine
+            Halt::BadLine(self.given)
         } else {
-            Lack::TooMuch
+            Halt::TooMuch
         }
     }
 
@@ -168,13 +168,13 @@ impl Ahead {
         alloc: Global,
         source: &mut S,
         room: usize,
-    ) -> Result<Option<usize>, Lack>
+    ) -> Result<Option<usize>, Halt>
         ensures ahead { OnOk result (ReadsAhead self.old self.new (S.left source.old) (S.left source.new)) }
         ensures place { IfOk result (λ place. place ≡ position is_line_feed (take room self.new.ahead)) }
         ensures buffered { IfOk result (λ place. place ≡ None → room ≤ length self.new.ahead) }
-        ensures lack { IfErr result (λ lack. SeekLacks lack room self.old (S.left source.old)) }
+        ensures why { IfErr result (λ halt. ReadsNoMore (NoLineFeedComes room self.old (S.left source.old)) halt) }
         ensures stays { OnErr result (self.new.given ≡ self.old.given) }
-        ensures counted { CountsLacks (S.faults source.old) (S.faults source.new) (S.left source.new) result }
+        ensures counted { CountsReads (S.faults source.old) (S.faults source.new) (S.left source.new) result }
         ensures beside_stays { S.beside source.new ≡ S.beside source.old }
     {
         'reading: loop {
@@ -192,12 +192,12 @@ impl Ahead {
         alloc: Global,
         source: &mut S,
         room: usize,
-    ) -> Result<(), Lack>
+    ) -> Result<(), Halt>
         ensures ahead { OnOk result (ReadsAhead self.old self.new (S.left source.old) (S.left source.new)) }
         ensures buffered { OnOk result (room ≤ length self.new.ahead) }
-        ensures lack { IfErr result (λ lack. AheadLacks lack room self.old (S.left source.old)) }
+        ensures why { IfErr result (λ halt. ReadsNoMore (FewerCome room self.old (S.left source.old)) halt) }
         ensures stays { OnErr result (self.new.given ≡ self.old.given) }
-        ensures counted { CountsLacks (S.faults source.old) (S.faults source.new) (S.left source.new) result }
+        ensures counted { CountsReads (S.faults source.old) (S.faults source.new) (S.left source.new) result }
         ensures beside_stays { S.beside source.new ≡ S.beside source.old }
     {
         'reading: while self.buffered() < room {
@@ -207,12 +207,12 @@ impl Ahead {
     }
 
     /// Reads what comes next. `Cut` at the end of the source.
-    fn fill<S: Source>(&mut self, alloc: Global, source: &mut S) -> Result<(), Lack>
+    fn fill<S: Source>(&mut self, alloc: Global, source: &mut S) -> Result<(), Halt>
         ensures ahead { OnOk result (ReadsAhead self.old self.new (S.left source.old) (S.left source.new)) }
         ensures more { OnOk result (length self.old.ahead < length self.new.ahead) }
-        ensures lack { IfErr result (λ lack. ReadLacks lack (S.left source.old)) }
+        ensures why { IfErr result (λ halt. ReadsNoMore (IsAtEnd (S.left source.old)) halt) }
         ensures stays { OnErr result (self.new.given ≡ self.old.given) }
-        ensures counted { CountsLacks (S.faults source.old) (S.faults source.new) (S.left source.new) result }
+        ensures counted { CountsReads (S.faults source.old) (S.faults source.new) (S.left source.new) result }
         ensures beside_stays { S.beside source.new ≡ S.beside source.old }
     {
         let mut chunk = [0; CHUNK];
@@ -258,17 +258,17 @@ fn line_feed_place(bytes: &[u8]) -> Option<usize>
 }
 
 /// Reads at least one byte. `Cut` at the end of the source.
-fn read_some<S: Source>(source: &mut S, chunk: &mut [u8]) -> Result<usize, Lack>
+fn read_some<S: Source>(source: &mut S, chunk: &mut [u8]) -> Result<usize, Halt>
     requires { 0 < length chunk.old }
     ensures within { IfOk result (λ count. (0 < count) × (count ≤ length chunk.new)) }
     ensures bytes { IfOk result (λ count. Consumes (S.left source.old) (S.left source.new) (take count chunk.new)) }
-    ensures lack { IfErr result (λ lack. ReadLacks lack (S.left source.old)) }
-    ensures counted { CountsLacks (S.faults source.old) (S.faults source.new) (S.left source.new) result }
+    ensures why { IfErr result (λ halt. ReadsNoMore (IsAtEnd (S.left source.old)) halt) }
+    ensures counted { CountsReads (S.faults source.old) (S.faults source.new) (S.left source.new) result }
     ensures beside_stays { S.beside source.new ≡ S.beside source.old }
 {
     match source.read(chunk) {
-        Ok(0) => Err(Lack::Cut),
+        Ok(0) => Err(Halt::Cut),
         Ok(count) => Ok(count),
-        Err(_) => Err(Lack::ReadFault),
+        Err(_) => Err(Halt::ReadFault),
     }
 }

@@ -1,11 +1,13 @@
-// The lines and documents of a session stream.
+// The lines and documents of a session stream, for callers that may ask again after a stop.
 ghost use Rattle.nm_model.specs.Limits.{longest_document};
-ghost use Rattle.nm_session.specs.Input.{CountsReads, BodyStops, GivesLine, GivesSpelling, LineStops, StopsAgain, StopsAt};
+ghost use Rattle.nm_session.specs.Halts.{stop_of};
+ghost use Rattle.nm_session.specs.Input.{BodyStops, GivesLine, GivesSpelling, LineStops, StopsAgain, StopsBy};
 ghost use Rattle.nm_session.specs.Limits.{longest_session};
-ghost use Rattle.std.specs.Prelude.{◌≡◌, ◌≤◌, [], None, IfErr, IfOk, IfSome};
+ghost use Rattle.std.specs.Prelude.{◌≡◌, ◌≤◌, [], None, IfErr, IfOk, IfSome, OnOk, Some};
 
 use crate::ahead::Ahead;
 use crate::body::Spelling;
+use crate::halt::Halt;
 use crate::stop::Stop;
 use nm_base::{NoMemory, Source};
 use std::alloc::Global;
@@ -16,7 +18,7 @@ use std::marker::Model;
 #[derive(Drop)]
 pub struct Input {
     ahead: Ahead,
-    stopped: Option<Stop>,
+    halted: Option<Halt>,
 }
 
 impl Model for Input {
@@ -26,7 +28,7 @@ impl Model for Input {
 
     ghost Value = { Received };
 
-    ghost view = { λ i. record { buffered = i.ahead; stopped = i.stopped } };
+    ghost view = { λ i. record { buffered = i.ahead; halted = i.halted } };
 
     ghost invariant = { λ i. i.ahead.given ≤ longest_session };
 }
@@ -34,11 +36,11 @@ impl Model for Input {
 impl Input {
     /// An input of which nothing was read.
     pub fn new(alloc: Global) -> Result<Input, NoMemory>
-        ensures { IfOk result (λ input. input ≡ record { buffered = record { ahead = []; given = 0 }; stopped = None }) }
+        ensures { IfOk result (λ input. input ≡ record { buffered = record { ahead = []; given = 0 }; halted = None }) }
     {
         Ok(Input {
             ahead: Ahead::new(alloc),
-            stopped: None,
+            halted: None,
         })
     }
 
@@ -57,24 +59,20 @@ impl Input {
     /// the source ends before.
     pub fn next_line<S: Source>(&mut self, alloc: Global, source: &mut S) -> Result<Vec<u8>, Stop>
         ensures line { IfOk result (λ line. GivesLine self.old.buffered self.new.buffered (S.left source.old) (S.left source.new) line.items) }
-        ensures goes_on { IfOk result (λ line. (self.old.stopped ≡ None) × (self.new.stopped ≡ None)) }
-        ensures stops { IfErr result (λ stop. self.old.stopped ≡ None → StopsAt self.old self.new stop) }
-        ensures why { IfErr result (λ stop. self.old.stopped ≡ None → LineStops stop self.old.buffered (S.left source.old)) }
-        ensures again { IfSome self.old.stopped (λ earlier. StopsAgain earlier result self.old self.new (S.left source.old) (S.left source.new) (S.faults source.old) (S.faults source.new)) }
-        ensures counted { CountsReads self.old.stopped (S.faults source.old) (S.faults source.new) (S.left source.new) result }
+        ensures goes_on { OnOk result ((self.old.halted ≡ None) × (self.new.halted ≡ None)) }
+        ensures stops { IfErr result (λ stop. self.old.halted ≡ None
+            → StopsBy self.old self.new stop (LineStops self.old.buffered (S.left source.old) (S.left source.new) (S.faults source.old) (S.faults source.new))) }
+        ensures again { IfSome self.old.halted (λ earlier. StopsAgain earlier result self.old self.new (S.left source.old) (S.left source.new) (S.faults source.old) (S.faults source.new)) }
+        ensures reads_kept { S.faults source.old ≤ S.faults source.new }
+        ensures unfailed { OnOk result (S.faults source.new ≡ S.faults source.old) }
         ensures beside_stays { S.beside source.new ≡ S.beside source.old }
     {
-        if let Some(stop) = self.stopped {
-            return Err(stop);
+        if let Some(halt) = self.halted {
+            return Err(Stop::from(halt));
         }
-        let offset = self.ahead.offset();
         match self.ahead.next_line(alloc, source) {
             Ok(line) => Ok(line),
-            Err(lack) => {
-                let stop = Stop::of(lack, offset);
-                self.stopped = Some(stop);
-                Err(stop)
-            }
+            Err(halt) => Err(self.stop(halt)),
         }
     }
 
@@ -91,24 +89,29 @@ impl Input {
     ) -> Result<Spelling, Stop>
         requires { len ≤ longest_document }
         ensures body { IfOk result (λ spelling. GivesSpelling self.old.buffered self.new.buffered (S.left source.old) (S.left source.new) len spelling) }
-        ensures goes_on { IfOk result (λ spelling. (self.old.stopped ≡ None) × (self.new.stopped ≡ None)) }
-        ensures stops { IfErr result (λ stop. self.old.stopped ≡ None → StopsAt self.old self.new stop) }
-        ensures why { IfErr result (λ stop. self.old.stopped ≡ None → BodyStops stop len self.old.buffered (S.left source.old)) }
-        ensures again { IfSome self.old.stopped (λ earlier. StopsAgain earlier result self.old self.new (S.left source.old) (S.left source.new) (S.faults source.old) (S.faults source.new)) }
-        ensures counted { CountsReads self.old.stopped (S.faults source.old) (S.faults source.new) (S.left source.new) result }
+        ensures goes_on { OnOk result ((self.old.halted ≡ None) × (self.new.halted ≡ None)) }
+        ensures stops { IfErr result (λ stop. self.old.halted ≡ None
+            → StopsBy self.old self.new stop (BodyStops len self.old.buffered (S.left source.old) (S.left source.new) (S.faults source.old) (S.faults source.new))) }
+        ensures again { IfSome self.old.halted (λ earlier. StopsAgain earlier result self.old self.new (S.left source.old) (S.left source.new) (S.faults source.old) (S.faults source.new)) }
+        ensures reads_kept { S.faults source.old ≤ S.faults source.new }
+        ensures unfailed { OnOk result (S.faults source.new ≡ S.faults source.old) }
         ensures beside_stays { S.beside source.new ≡ S.beside source.old }
     {
-        if let Some(stop) = self.stopped {
-            return Err(stop);
+        if let Some(halt) = self.halted {
+            return Err(Stop::from(halt));
         }
-        let offset = self.ahead.offset();
         match self.ahead.next_spelling(alloc, source, len) {
             Ok(spelling) => Ok(spelling),
-            Err(lack) => {
-                let stop = Stop::of(lack, offset);
-                self.stopped = Some(stop);
-                Err(stop)
-            }
+            Err(halt) => Err(self.stop(halt)),
         }
+    }
+
+    /// Keeps why nothing more is given, as the stop of this call and of all later ones.
+    fn stop(&mut self, halt: Halt) -> Stop
+        ensures kept { self.new ≡ record { buffered = self.old.buffered; halted = Some halt } }
+        ensures told { result ≡ stop_of halt }
+    {
+        self.halted = Some(halt);
+        Stop::from(halt)
     }
 }

@@ -1,17 +1,17 @@
 // A store from the stream of its commands.
 ghost use Rattle.nm_base.specs.Faults.{IsRisen};
-ghost use Rattle.nm_session.specs.Input.{CountsReads, IsInputStop};
+ghost use Rattle.nm_session.specs.Input.{CountsReads};
 ghost use Rattle.nm_session.specs.Opening as spec;
 ghost use Rattle.nm_session.specs.Stream.{outcome};
 ghost use Rattle.nm_session.specs.declared.state.State.TheVariants as state_of;
 ghost use Rattle.nm_terms.specs.Due.{IsDue};
-ghost use Rattle.std.specs.Prelude.{◌≡◌, ◌≤◌, [], None, IfErr, IfSome, OnOk};
+ghost use Rattle.std.specs.Prelude.{◌≡◌, ◌≤◌, [], IfErr, IfSome, OnOk};
 
-use crate::input::Input;
+use crate::ahead::Ahead;
+use crate::halt::Halt;
 use crate::state::State;
-use crate::stop::Stop;
 use crate::taking::take_turn;
-use nm_base::{NoMemory, Source, Status};
+use nm_base::{Source, Status};
 use nm_version::Version;
 use std::alloc::Global;
 
@@ -23,24 +23,13 @@ pub struct OpeningError {
     pub at: u64,
 }
 
-impl From<Stop> for OpeningError {
-    ghost from_gives = { λ stop error. error ≡ spec.error_of stop };
+impl From<Halt> for OpeningError {
+    ghost from_gives = { λ halt error. error ≡ spec.error_of halt };
 
-    fn from(stop: Stop) -> OpeningError {
+    fn from(halt: Halt) -> OpeningError {
         OpeningError {
-            status: stop.status,
-            at: stop.at,
-        }
-    }
-}
-
-impl From<NoMemory> for OpeningError {
-    ghost from_gives = { λ _ error. error ≡ spec.no_memory };
-
-    fn from(_: NoMemory) -> OpeningError {
-        OpeningError {
-            status: Status::NoMemory,
-            at: 0,
+            status: halt.status(),
+            at: halt.place(),
         }
     }
 }
@@ -59,9 +48,9 @@ pub fn opening<S: Source>(alloc: Global, source: &mut S) -> Result<Version, Open
     ensures reads_kept { S.faults source.old ≤ S.faults source.new }
     ensures beside_stays { S.beside source.new ≡ S.beside source.old }
 {
-    let mut input = Input::new(alloc)?;
+    let mut ahead = Ahead::new(alloc);
     let mut state = State::Empty;
-    run_to_end(alloc, &mut input, &mut state, source)?;
+    run_to_end(alloc, &mut ahead, &mut state, source)?;
     match state {
         State::Store(version) => Ok(version),
         State::Empty => Err(OpeningError {
@@ -74,20 +63,19 @@ pub fn opening<S: Source>(alloc: Global, source: &mut S) -> Result<Version, Open
 /// Runs a whole stream from its beginning, and drops the replies.
 fn run_to_end<S: Source>(
     alloc: Global,
-    input: &mut Input,
+    ahead: &mut Ahead,
     state: &mut State,
     source: &mut S,
-) -> Result<(), Stop>
-    requires new { input.old ≡ record { buffered = record { ahead = []; given = 0 }; stopped = None } }
+) -> Result<(), Halt>
+    requires new { ahead.old ≡ record { ahead = []; given = 0 } }
     requires empty { state.old ≡ state_of.Empty }
     ensures done { OnOk result (IfSome (S.left source.old) (λ stream. spec.IsDoneIn (outcome stream) state.new)) }
-    ensures stop { IfErr result (λ stop. IfSome (S.left source.old) (λ stream. spec.TellsEnding stop (outcome stream))) }
-    ensures placed { IfErr result (λ stop. IsInputStop stop) }
-    ensures counted { CountsReads None (S.faults source.old) (S.faults source.new) (S.left source.new) result }
+    ensures why { IfErr result (λ halt. IfSome (S.left source.old) (λ stream. spec.TellsEnding halt (outcome stream).ending)) }
+    ensures counted { CountsReads (S.faults source.old) (S.faults source.new) (S.left source.new) result }
     ensures beside_stays { S.beside source.new ≡ S.beside source.old }
 {
     'turns: loop {
-        let (_, is_last) = take_turn(alloc, input, state, source)?;
+        let (_, is_last) = take_turn(alloc, ahead, state, source)?;
         if is_last {
             return Ok(());
         }

@@ -1,48 +1,25 @@
-// Why a session takes no further command.
-ghost use Rattle.nm_base.specs.declared.outcome.Status.TheVariants as statuses;
-ghost use Rattle.nm_session.specs.Stops.{stop_by, stop_of};
+// Why an input gives nothing more, as its callers are told.
+ghost use Rattle.nm_session.specs.Halts.{stop_of};
 ghost use Rattle.std.specs.Prelude.{◌≡◌};
 
-use crate::lack::Lack;
-use nm_base::{NoMemory, Status};
+use crate::halt::Halt;
+use nm_base::Status;
 
-/// Why a session takes no further command: the status with which it ends.
+/// Why an input gives nothing more: the status with which a session ends there.
 #[derive(Clone, Copy, Debug, PartialEq, Eq)]
 pub struct Stop {
     pub status: Status,
-    /// Where the line begins that is no command, with `BadSession`; 0 with any other status.
+    /// Where the line begins that is too long, with `BadSession`; 0 with any other status.
     pub at: u64,
 }
 
-impl Stop {
-    /// A stop that tells of no place.
-    pub(crate) fn by(status: Status) -> Stop
-        ensures { result ≡ stop_by status }
-    {
-        Stop { status, at: 0 }
-    }
+impl From<Halt> for Stop {
+    ghost from_gives = { λ halt stop. stop ≡ stop_of halt };
 
-    /// The stop of an input at this offset that lacks a line or a document.
-    pub(crate) fn of(lack: Lack, offset: u64) -> Stop
-        ensures { result ≡ stop_of lack offset }
-    {
-        match lack {
-            Lack::LongLine => Stop {
-                status: Status::BadSession,
-                at: offset,
-            },
-            Lack::ReadFault => Stop::by(Status::ReadFault),
-            Lack::NoMemory => Stop::by(Status::NoMemory),
-            Lack::Cut => Stop::by(Status::Cut),
-            Lack::TooMuch => Stop::by(Status::TooMuch),
+    fn from(halt: Halt) -> Stop {
+        Stop {
+            status: halt.status(),
+            at: halt.place(),
         }
-    }
-}
-
-impl From<NoMemory> for Stop {
-    ghost from_gives = { λ _ stop. stop ≡ stop_by statuses.NoMemory };
-
-    fn from(_: NoMemory) -> Stop {
-        Stop::by(Status::NoMemory)
     }
 }

@@ -1,17 +1,19 @@
 // Sessions: a stream of commands, and their replies.
-ghost use Rattle.std.specs.Prelude.{◌≡◌, ◌≤◌, None, IfOk, IfErr, OnOk, IfSome};
-ghost use Rattle.nm_base.specs.declared.outcome.Status.TheVariants.{BadSession};
+ghost use Rattle.std.specs.Prelude.{◌≡◌, ◌≤◌, codes, IfOk, IfErr, OnOk, IfSome};
+ghost use Rattle.std.specs.Io.KnownBytes.{Appends};
 ghost use Rattle.nm_session.specs.Answered.{AnswersStream, AnswersUnlessFaults, HasCause, NoneFailed};
 ghost use Rattle.nm_session.specs.Input.{coming};
-ghost use Rattle.nm_session.specs.Turns.{AnswersTurn, AnswerStops, EndsWith, GoesOn, NamesBadLine};
+ghost use Rattle.nm_session.specs.Reply as replies;
+ghost use Rattle.nm_session.specs.Turns.{AnswersTurn, EndsWith, GoesOn, InterruptionTells, LeavesBadLine, NoAnswerBy};
 
+use crate::ahead::Ahead;
 use crate::answer::numbered;
-use crate::input::Input;
-use crate::output::write_out;
+use crate::halt::Halt;
+use crate::interruption::Interruption;
 use crate::state::State;
-use crate::stop::Stop;
 use crate::taking::take_turn;
-use nm_base::{Sink, Source, Status};
+use nm_base::{Sink, Source, Status, write_whole};
+use nm_writer::WriteError;
 use std::alloc::Global;
 
 /// Answers the commands of a session stream, each before the next one is taken.
@@ -37,15 +39,13 @@ pub fn session<S: Source, K: Sink>(alloc: Global, source: &mut S, sink: &mut K) 
     ensures source_beside { S.beside source.new ≡ S.beside source.old }
     ensures sink_beside { K.beside sink.new ≡ K.beside sink.old }
 {
-    let Ok(mut input) = Input::new(alloc) else {
-        return Status::NoMemory;
-    };
+    let mut ahead = Ahead::new(alloc);
     let mut state = State::Empty;
     'turns: loop {
-        match turn(alloc, &mut input, &mut state, source, sink) {
+        match turn(alloc, &mut ahead, &mut state, source, sink) {
             Ok(false) => {}
             Ok(true) => return Status::Done,
-            Err(stop) => return ended(alloc, stop, sink),
+            Err(interruption) => return ended(alloc, interruption, sink),
         }
     }
 }
@@ -53,51 +53,53 @@ pub fn session<S: Source, K: Sink>(alloc: Global, source: &mut S, sink: &mut K) 
 /// Takes one command and answers it. `true` says that it was the last.
 fn turn<S: Source, K: Sink>(
     alloc: Global,
-    input: &mut Input,
+    ahead: &mut Ahead,
     state: &mut State,
     source: &mut S,
     sink: &mut K,
-) -> Result<bool, Stop>
-    requires { input.old.stopped ≡ None }
-    ensures turn { IfOk result (λ last. IfSome (coming input.old.buffered (S.left source.old)) (λ bytes.
-        AnswersTurn state.old state.new input.old.buffered input.new.buffered bytes (S.left source.new) (K.written sink.old) (K.written sink.new) last)) }
-    ensures stop { IfErr result (λ stop. IfSome (coming input.old.buffered (S.left source.old)) (λ bytes.
-        AnswerStops stop state.old input.old.buffered bytes (K.written sink.old) (K.written sink.new))) }
-    ensures cause { IfErr result (λ stop. HasCause stop.status (S.faults source.old) (S.faults source.new) (K.faults sink.old) (K.faults sink.new) (S.left source.new)) }
+) -> Result<bool, Interruption>
+    ensures turn { IfOk result (λ last. IfSome (coming ahead.old (S.left source.old)) (λ bytes.
+        AnswersTurn state.old state.new ahead.old ahead.new bytes (S.left source.new) (K.written sink.old) (K.written sink.new) last)) }
+    ensures why { IfErr result (λ interruption. IfSome (coming ahead.old (S.left source.old)) (λ bytes.
+        NoAnswerBy interruption state.old ahead.old bytes (K.written sink.old) (K.written sink.new))) }
+    ensures cause { IfErr result (λ interruption. InterruptionTells interruption (S.faults source.old) (S.faults source.new) (K.faults sink.old) (K.faults sink.new) (S.left source.new)) }
     ensures unfailed { OnOk result (NoneFailed (S.faults source.old) (S.faults source.new) (K.faults sink.old) (K.faults sink.new)) }
-    ensures goes_on { OnOk result (GoesOn input.old input.new) }
+    ensures goes_on { OnOk result (GoesOn ahead.old ahead.new) }
     ensures reads_kept { S.faults source.old ≤ S.faults source.new }
     ensures writes_kept { K.faults sink.old ≤ K.faults sink.new }
     ensures source_beside { S.beside source.new ≡ S.beside source.old }
     ensures sink_beside { K.beside sink.new ≡ K.beside sink.old }
 {
-    let (reply, is_last) = take_turn(alloc, input, state, source)?;
-    write_out(sink, reply.as_slice())?;
+    let (reply, is_last) = take_turn(alloc, ahead, state, source)?;
+    write_whole(sink, reply.as_slice())?;
     Ok(is_last)
 }
 
-/// The status of a session that stopped, after the line that names a bad one's offset.
-fn ended<K: Sink>(alloc: Global, stop: Stop, sink: &mut K) -> Status
-    ensures ends { EndsWith stop result (K.written sink.old) (K.written sink.new) (K.faults sink.old) (K.faults sink.new) }
+/// The status of a session that was interrupted, after the line that names a bad one's offset.
+fn ended<K: Sink>(alloc: Global, interruption: Interruption, sink: &mut K) -> Status
+    ensures ends { EndsWith interruption result (K.written sink.old) (K.written sink.new) (K.faults sink.old) (K.faults sink.new) }
     ensures writes_kept { K.faults sink.old ≤ K.faults sink.new }
     ensures beside_stays { K.beside sink.new ≡ K.beside sink.old }
 {
-    match stop.status {
-        Status::BadSession => match name_bad_line(alloc, stop.at, sink) {
+    match interruption {
+        Interruption::Halted(Halt::BadLine(at)) => match name_bad_line(alloc, at, sink) {
             Ok(()) => Status::BadSession,
-            Err(failed) => failed.status,
+            Err(WriteError::Fault) => Status::WriteFault,
+            Err(WriteError::NoMemory) => Status::NoMemory,
         },
-        status => status,
+        Interruption::Halted(halt) => halt.status(),
+        Interruption::WriteFault => Status::WriteFault,
     }
 }
 
 /// Writes the line that names the offset of a bad one.
-fn name_bad_line<K: Sink>(alloc: Global, at: u64, sink: &mut K) -> Result<(), Stop>
-    ensures named { OnOk result (NamesBadLine BadSession at (K.written sink.old) (K.written sink.new) (K.faults sink.old) (K.faults sink.new)) }
-    ensures stop { IfErr result (λ stop. NamesBadLine stop.status at (K.written sink.old) (K.written sink.new) (K.faults sink.old) (K.faults sink.new)) }
+fn name_bad_line<K: Sink>(alloc: Global, at: u64, sink: &mut K) -> Result<(), WriteError>
+    ensures named { OnOk result (Appends (K.written sink.old) (K.written sink.new) (replies.numbered (codes "badline") at)) }
+    ensures unfailed { OnOk result (K.faults sink.new ≡ K.faults sink.old) }
+    ensures why { IfErr result (λ error. LeavesBadLine error at (K.written sink.old) (K.written sink.new) (K.faults sink.old) (K.faults sink.new)) }
     ensures writes_kept { K.faults sink.old ≤ K.faults sink.new }
     ensures beside_stays { K.beside sink.new ≡ K.beside sink.old }
 {
     let line = numbered(alloc, b"badline", at)?;
-    write_out(sink, &line)
+    Ok(write_whole(sink, &line)?)
 }

@@ -1,5 +1,5 @@
 -- The order of projects as one comes and another goes.
-use Rattle.std.proofs.Common.{◌≡◌, ◌∙◌, ℕ, List, [], ◌∷◌, Bool, true, false, not, cond, ◌==◌, Ordering, nat_cmp, map, refl, sym, ap, subst}
+use Rattle.std.proofs.Common.{◌≡◌, ◌∙◌, ℕ, List, [], ◌∷◌, Bool, true, false, cond, Ordering, nat_cmp, refl, sym, ap, subst}
 use Rattle.std.specs.BTreeSet.{replace_key}
 use Rattle.std.proofs.lemmas.Cmp.{nat_cmp_total}
 use Rattle.std.specs.Cmp.{IsTotalOrder, ranked}

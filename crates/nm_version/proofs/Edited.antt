@@ -5,18 +5,17 @@ use Rattle.std.proofs.lemmas.Cmp.{tied_itself}
 use Rattle.std.proofs.lemmas.List.Elements.{All-contains_itself, All-from_recursion, recursion_from_All}
 use Rattle.std.proofs.lemmas.List.Sorted.{All-permutation, IsPermutation-sym}
 use Rattle.std.specs.Cmp.{ranked}
-use Rattle.std.specs.List.{AllByRecursion, IsDistinct, filter, find, list_any}
+use Rattle.std.specs.List.{AllByRecursion, IsDistinct, filter}
 use Rattle.std.specs.List.Sorted.{IsStrictlySortedBy}
 use Rattle.std.specs.Ordering.{eq_by_cmp, is_eq, is_gt, ordering_reverse}
 use Rattle.std.specs.declared.cmp.Ordering.TheVariants.{Less, Equal, Greater}
 use Rattle.nm_check.proofs.Edits.{step_cmp-total}
 use Rattle.nm_check.proofs.Rising.{all_map}
-use Rattle.nm_check.specs.Edit.{CanEdit, edited_steps, is_step_taken, keys_of, without_steps}
+use Rattle.nm_check.specs.Edit.{edited_steps, is_step_taken, keys_of, without_steps}
 use Rattle.nm_check.specs.Replay.{AreSteps, HasSets, step_cmp}
 use Rattle.nm_day.proofs.Orders.{key_cmp-total}
 use Rattle.nm_day.specs.Key.{key_cmp}
 use Rattle.nm_ident.proofs.Rising.{all_weaker, filter_alike, rises-from_test}
-use Rattle.nm_model.specs.Sound.{is_sound_change, is_sound_header, is_sound_within_limits, is_within_limits}
 use Rattle.nm_model.specs.declared.document.Difference.{Difference}
 use Rattle.nm_model.specs.declared.document.Document.{Document}
 use Rattle.nm_model.specs.declared.document.Document.TheVariants as document
@@ -27,18 +26,18 @@ use Rattle.nm_stage.proofs.Changes.{with_in_order, without_in_order}
 use Rattle.nm_stage.proofs.Lives.{other}
 use Rattle.nm_stage.proofs.Orders.{live_projects_stand_in_order, not_level, project_cmp-total}
 use Rattle.nm_stage.proofs.Sorting.{placed_is}
-use Rattle.nm_stage.specs.Live.{IsLive, filing_cmp, project_of, with_project, without_filing}
+use Rattle.nm_stage.specs.Live.{IsLive, project_of, with_project, without_filing}
 use Rattle.nm_stage.specs.Project.{PlainProject, PlainStep, id_of, key_of, step_of}
 use Rattle.nm_stage.specs.Sorted.{placed_by}
 use Rattle.nm_stage.specs.Steps.{in_order, project_cmp, steps_of}
 use Rattle.nm_statement.proofs.Orders.{statement_cmp-total}
 use Rattle.nm_statement.specs.Order.{statement_cmp}
-use Rattle.nm_statement.specs.Set.{IsRising, is_rising}
-use Rattle.nm_statement.specs.Sound.{is_sound_set, is_sound_statement}
+use Rattle.nm_statement.specs.Set.{IsRising}
+use Rattle.nm_statement.specs.Sound.{is_sound_set}
 use Rattle.nm_statement.specs.declared.set.Change.{Change}
 use Rattle.nm_statement.specs.declared.statement.Statement.{Statement}
 use Rattle.nm_timeline.specs.Timeline.{has_key}
-use Rattle.nm_version.proofs.Commits.{IsAllowed, allowed}
+use Rattle.nm_version.proofs.Commits.{allowed}
 use Rattle.nm_version.proofs.Filings.{all_filtered, all_replaced, are_numbers, of_found}
 use Rattle.nm_version.proofs.Lesser.{by_filing, find_own}
 use Rattle.nm_version.proofs.Lists.{filter-map}
@@ -48,7 +47,7 @@ use Rattle.nm_version.specs.Changed.{live_after, live_redated, live_revised, liv
 use Rattle.nm_version.specs.Command.{IsSpelt}
 use Rattle.nm_version.specs.Edits.{CommandsEditSteps, IsEdit, own_step, step_redated, step_revised}
 use Rattle.nm_version.specs.Kept.{Kept, number_of, opened}
-use Rattle.nm_version.specs.Refusal.{early_refusal, kind_of, unknown_of}
+use Rattle.nm_version.specs.Refusal.{kind_of, unknown_of}
 use Rattle.nm_version.specs.declared.command.Command.{Command}
 use Rattle.nm_version.specs.declared.command.Command.TheVariants.{File, Revise, Redate, Withdraw}
 

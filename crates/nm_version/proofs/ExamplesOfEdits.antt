@@ -9,10 +9,9 @@ use Rattle.nm_model.specs.declared.document.Difference.{Difference}
 use Rattle.nm_model.specs.declared.document.Document.TheVariants as document
 use Rattle.nm_stage.specs.Project.{PlainProject, step_of}
 use Rattle.nm_statement.specs.declared.object.Object.TheVariants.{Literal}
-use Rattle.nm_statement.specs.declared.set.Change.{Change}
 use Rattle.nm_statement.specs.declared.statement.Statement.{Statement}
 use Rattle.nm_timeline.specs.declared.part.Part.TheVariants as part
-use Rattle.nm_version.specs.Changed.{project_filed, project_redated}
+use Rattle.nm_version.specs.Changed.{project_redated}
 use Rattle.nm_version.specs.Edits.{added_by, taken_by}
 use Rattle.nm_version.specs.Kept.{Kept}
 use Rattle.nm_version.specs.Lesser.{lesser_cause, refusal_by}

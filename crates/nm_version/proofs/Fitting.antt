@@ -1,5 +1,5 @@
 -- What accepted commands have led to fits.
-use Rattle.std.proofs.Common.{◌≡◌, ◌∙◌, ℕ, List, [], ◌∷◌, ◌++◌, Option, None, Some, map, refl, sym, ap, subst}
+use Rattle.std.proofs.Common.{◌≡◌, ◌∙◌, ℕ, List, [], ◌∷◌, ◌++◌, Option, None, Some, map, refl, sym, ap}
 use Rattle.std.specs.Option.{option_map, option_or}
 use Rattle.nm_check.specs.Breaks.{breaks_at, first_of, statement_breaks}
 use Rattle.nm_check.specs.declared.breaks.Break.{Break}
@@ -11,7 +11,7 @@ use Rattle.nm_statement.specs.declared.statement.Statement.{Statement}
 use Rattle.nm_version.proofs.Breaks.{first_break_at, first_cause}
 use Rattle.nm_version.proofs.Lesser.{causes_are}
 use Rattle.nm_version.proofs.Reached.{AllAccepted, after_accepted, none_refused}
-use Rattle.nm_version.specs.After.{IsReached, accepted, after_all}
+use Rattle.nm_version.specs.After.{accepted, after_all}
 use Rattle.nm_version.specs.Changed.{live_after}
 use Rattle.nm_version.specs.Kept.{Kept, opened}
 use Rattle.nm_version.specs.Lesser.{Fits, WhatIsReachedFits, cause_of}

@@ -1,5 +1,5 @@
 -- The first break is the lesser of the first dependency that is not met and the first statement that does not fit.
-use Rattle.std.proofs.Common.{◌≡◌, ◌∙◌, ℕ, ◌==◌, List, [], ◌∷◌, ◌++◌, Bool, true, false, not, cond, if◌then◌else◌, Option, None, Some, Ordering, nat_cmp, map, arith, refl, sym, ap, subst}
+use Rattle.std.proofs.Common.{◌≡◌, ◌∙◌, ℕ, ◌==◌, List, [], ◌∷◌, ◌++◌, true, false, not, cond, if◌then◌else◌, Option, None, Some, nat_cmp, map, arith, refl, sym, ap, subst}
 use Rattle.std.proofs.lemmas.Bool.Decides.{nat_tests}
 use Rattle.std.proofs.lemmas.Cmp.{tied_itself}
 use Rattle.std.proofs.lemmas.List.{map-append}
@@ -18,15 +18,13 @@ use Rattle.nm_day.proofs.Orders.{key_cmp-total}
 use Rattle.nm_day.specs.Key.{key_cmp}
 use Rattle.nm_day.specs.declared.key.Key.{Key}
 use Rattle.nm_ident.proofs.Rising.{all_append, all_weaker}
-use Rattle.nm_model.specs.declared.document.Full.{Full}
 use Rattle.nm_stage.proofs.Orders.{live_projects_stand_in_order}
 use Rattle.nm_stage.specs.Dependencies.{least_of, missing_from, missing_of, missing_or, unmet}
 use Rattle.nm_stage.specs.Laws.{InOrder}
-use Rattle.nm_stage.specs.Live.{IsLive, filing_cmp}
+use Rattle.nm_stage.specs.Live.{filing_cmp}
 use Rattle.nm_stage.specs.Project.{PlainProject, PlainStep, key_of, model_of, step_of}
 use Rattle.nm_stage.specs.Steps.{in_order, project_cmp, steps_of}
 use Rattle.nm_statement.specs.Set.{has}
-use Rattle.nm_statement.specs.declared.set.Change.{Change}
 use Rattle.nm_statement.specs.declared.statement.Statement.{Statement}
 use Rattle.nm_timeline.specs.declared.part.Part.{Part}
 use Rattle.nm_timeline.specs.declared.part.Part.TheVariants as part

@@ -1,5 +1,5 @@
 -- Replay: the base's statements changed by the steps, one after another, and what does not fit.
-use Rattle.std.specs.Prelude.{ℕ, List, [], ◌∷◌, ◌++◌, Bool, not, Option, None, Some, map}
+use Rattle.std.specs.Prelude.{ℕ, List, [], ◌∷◌, ◌++◌, Bool, not, Option, map}
 use Rattle.std.specs.List.{filter}
 use Rattle.std.specs.Ordering.{is_le}
 use Rattle.nm_check.specs.Breaks.{first_of}

@@ -1,12 +1,10 @@
-use Rattle.std.proofs.Common.{refl, ap, ◌∙◌}
-use Rattle.nm_session.specs.Received.{Received}
-use Rattle.nm_session.proofs.Sessions.{each, stands_first, stands_next, is_done, ends_stopped, ended_cause, is_complete}
+use Rattle.std.proofs.Common.{refl, ◌∙◌}
+use Rattle.nm_session.proofs.Sessions.{each, stands_first, stands_next, is_done, ends_interrupted, ended_cause, is_complete}
 use Rattle.nm_session.proofs.stream.session.Goals as goal
 
 pub turns-init : goal.turns-init
 turns-init g c = record {
-  stands = stands_first c.in-Ok.input (g.S.Source.left c.args.source.now) (g.K.Sink.written c.args.sink.now) c.in-Ok.ensures;
-  fresh = ap (λ (i : Received). i.stopped) c.in-Ok.ensures;
+  stands = stands_first c.new-ahead.result (g.S.Source.left c.args.source.now) (g.K.Sink.written c.args.sink.now) c.new-ahead.ensures;
   reads_unfailed = refl;
   writes_unfailed = refl;
   source_beside = refl;
@@ -19,9 +17,8 @@ turns-preserved g c =
     let call = c.in-Ok-false.ensures in
     record {
       stands = each (g.S.Source.left c.args.source.now)
-          (λ stream stands. stands_next stream c.turns.input.buffered c.turn.new.input.buffered _ _ c.turns.state _ _ _ _ c.in-Ok-false.field-0 c.in-Ok-false.field-0-test stands call.turn call.goes_on.more call.goes_on.limit)
+          (λ stream stands. stands_next stream c.turns.ahead c.turn.new.ahead _ _ c.turns.state _ _ _ _ c.in-Ok-false.field-0 c.in-Ok-false.field-0-test stands call.turn call.goes_on.more call.goes_on.limit)
           before.stands;
-      fresh = call.goes_on.fresh;
       reads_unfailed = call.unfailed.0 ∙ before.reads_unfailed;
       writes_unfailed = call.unfailed.1 ∙ before.writes_unfailed;
       source_beside = call.source_beside ∙ before.source_beside;
@@ -31,7 +28,7 @@ turns-preserved g c =
 pub returns-in-Ok-true-clause-answers : goal.returns-in-Ok-true-clause-answers
 returns-in-Ok-true-clause-answers g c =
     each (g.S.Source.left c.args.source.now)
-    (λ stream stands. is_done stream c.turns.input.buffered c.turn.new.input.buffered _ _ c.turns.state _ _ _ _ c.in-Ok-true.field-0 c.in-Ok-true.field-0-test stands c.in-Ok-true.ensures.turn)
+    (λ stream stands. is_done stream c.turns.ahead c.turn.new.ahead _ _ c.turns.state _ _ _ _ c.in-Ok-true.field-0 c.in-Ok-true.field-0-test stands c.in-Ok-true.ensures.turn)
     c.turns.invariant.stands
 
 pub returns-in-Ok-true-clause-complete : goal.returns-in-Ok-true-clause-complete
@@ -39,13 +36,13 @@ returns-in-Ok-true-clause-complete g c =
     each (g.S.Source.left c.args.source.now)
     (λ stream stands. is_complete stream _ _ _ _ _ _ _ (g.S.Source.left c.turn.new.source)
     (c.in-Ok-true.ensures.unfailed.0 ∙ c.turns.invariant.reads_unfailed, c.in-Ok-true.ensures.unfailed.1 ∙ c.turns.invariant.writes_unfailed)
-    (is_done stream c.turns.input.buffered c.turn.new.input.buffered _ _ c.turns.state _ _ _ _ c.in-Ok-true.field-0 c.in-Ok-true.field-0-test stands c.in-Ok-true.ensures.turn))
+    (is_done stream c.turns.ahead c.turn.new.ahead _ _ c.turns.state _ _ _ _ c.in-Ok-true.field-0 c.in-Ok-true.field-0-test stands c.in-Ok-true.ensures.turn))
     c.turns.invariant.stands
 
 pub returns-in-Err-clause-answers : goal.returns-in-Err-clause-answers
 returns-in-Err-clause-answers g c =
     each (g.S.Source.left c.args.source.now)
-    (λ stream stands. ends_stopped stream c.turns.input.buffered _ c.turns.state c.in-Err.stop _ _ _ _ _ _ _ stands c.in-Err.ensures.stop c.ended.ensures.ends)
+    (λ stream stands. ends_interrupted stream c.turns.ahead _ c.turns.state c.in-Err.interruption _ _ _ _ _ _ _ stands c.in-Err.ensures.why c.ended.ensures.ends)
     c.turns.invariant.stands
 
 pub returns-in-Err-clause-complete : goal.returns-in-Err-clause-complete
@@ -54,10 +51,10 @@ returns-in-Err-clause-complete g c =
     let call = c.in-Err.ensures in
     each (g.S.Source.left c.args.source.now)
     (λ stream stands. is_complete stream _ _ _ _ _ _ _ (g.S.Source.left c.turn.new.source)
-    (ended_cause c.in-Err.stop c.ended.result _ _ (g.S.Source.faults c.args.source.now) (g.S.Source.faults c.turns.source) (g.S.Source.faults c.turn.new.source)
+    (ended_cause c.in-Err.interruption c.ended.result _ _ (g.S.Source.faults c.args.source.now) (g.S.Source.faults c.turns.source) (g.S.Source.faults c.turn.new.source)
     (g.K.Sink.faults c.args.sink.now) (g.K.Sink.faults c.turns.sink) (g.K.Sink.faults c.turn.new.sink) (g.K.Sink.faults c.ended.new.sink) (g.S.Source.left c.turn.new.source)
     call.cause before.reads_unfailed before.writes_unfailed c.ended.ensures.ends)
-    (ends_stopped stream c.turns.input.buffered _ c.turns.state c.in-Err.stop _ _ _ _ _ _ _ stands call.stop c.ended.ensures.ends))
+    (ends_interrupted stream c.turns.ahead _ c.turns.state c.in-Err.interruption _ _ _ _ _ _ _ stands call.why c.ended.ensures.ends))
     before.stands
 
 pub returns-in-Ok-true-clause-cause : goal.returns-in-Ok-true-clause-cause
@@ -67,6 +64,6 @@ returns-in-Ok-true-clause-cause g c =
 pub returns-in-Err-clause-cause : goal.returns-in-Err-clause-cause
 returns-in-Err-clause-cause g c =
     let before = c.turns.invariant in
-    ended_cause c.in-Err.stop c.ended.result _ _ (g.S.Source.faults c.args.source.now) (g.S.Source.faults c.turns.source) (g.S.Source.faults c.turn.new.source)
+    ended_cause c.in-Err.interruption c.ended.result _ _ (g.S.Source.faults c.args.source.now) (g.S.Source.faults c.turns.source) (g.S.Source.faults c.turn.new.source)
     (g.K.Sink.faults c.args.sink.now) (g.K.Sink.faults c.turns.sink) (g.K.Sink.faults c.turn.new.sink) (g.K.Sink.faults c.ended.new.sink) (g.S.Source.left c.turn.new.source)
     c.in-Err.ensures.cause before.reads_unfailed before.writes_unfailed c.ended.ensures.ends

@@ -1,5 +1,5 @@
 -- In between two commands the session stands in its stream, and no call failed.
-use Rattle.std.proofs.Common.{◌≡◌, ◌-◌, None, IfSome}
+use Rattle.std.proofs.Common.{◌≡◌, ◌-◌, IfSome}
 use Rattle.nm_session.proofs.Sessions.{Written}
 use Rattle.nm_session.specs.Limits.{longest_session}
 use Rattle.nm_session.proofs.stream.session.Given as goal
@@ -10,8 +10,7 @@ invariant-turns g l =
     let sink = g.K.Sink in
     record {
       stands : IfSome (source.left l.fn.source) (λ stream.
-          Written stream l.input.buffered (source.left l.source) l.state (sink.written l.fn.sink) (sink.written l.sink));
-      fresh : l.input.stopped ≡ None;
+          Written stream l.ahead (source.left l.source) l.state (sink.written l.fn.sink) (sink.written l.sink));
       reads_unfailed : source.faults l.source ≡ source.faults l.fn.source;
       writes_unfailed : sink.faults l.sink ≡ sink.faults l.fn.sink;
       source_beside : source.beside l.source ≡ source.beside l.fn.source;
@@ -20,4 +19,4 @@ invariant-turns g l =
 
 -- how many bytes the session may still take
 abbrev pub decreases-turns : goal.decreases-turns
-decreases-turns g l = longest_session - l.input.buffered.given
+decreases-turns g l = longest_session - l.ahead.given
