@@ -204,16 +204,19 @@ own_steps (x ∷ xs) remove a = (
   own_steps xs remove (all_weaker (λ r. AllByRecursion (λ y. IsOwn y r) (x ∷ xs)) (λ r. AllByRecursion (λ y. IsOwn y r) xs) (λ r h. h.1) remove a),
 )
 
-pub timelines_are_edited : TimelinesAreEdited
-timelines_are_edited base remove add steps s are can =
+-- the entries of the steps that are left are those at other keys than the ones of the steps taken away
+pub entries_without : (remove add steps : List PlainStep) (s : Statement) → AreSteps steps → CanEdit remove add steps
+    → entries_of (without_steps remove steps) s ≡ without_keys (keys_naming remove s) (entries_of steps s)
+entries_without remove add steps s are can =
     let owned = own_steps steps remove (all_weaker (Contains steps) (λ r. AllByRecursion (λ x. IsOwn x r) steps) (λ r. own_step steps r are.order) remove can.removed) in
-    let left : entries_of (without_steps remove steps) s ≡ without_keys (keys_naming remove s) (entries_of steps s) =
     entries_left s (keys_of remove) (keys_naming remove s) steps
     (all_weaker (λ x. AllByRecursion (IsOwn x) remove) (λ x. is_named x.change s ≡ true → has_key (keys_of remove) x.key ≡ has_key (keys_naming remove s) x.key) (λ x own. same_keys s x remove own) steps owned)
-    in
+
+pub timelines_are_edited : TimelinesAreEdited
+timelines_are_edited base remove add steps s are can =
     let whole : entries_of (edited_steps remove add steps) s ≡ with_entries (without_keys (keys_naming remove s) (entries_of steps s)) (entries_of add s) =
     entries_with s add (without_steps remove steps) (kept_order remove steps are.order) can.apart can.free
-    ∙ ap (λ es. with_entries es (entries_of add s)) left
+    ∙ ap (λ es. with_entries es (entries_of add s)) (entries_without remove add steps s are can)
     in
     λ i. record { base = has base s; entries = whole i }
 

@@ -1,9 +1,13 @@
 -- Worked examples of the definitions, computed.
-use Rattle.std.proofs.Common.{◌≡◌, ℕ, List, [], ◌∷◌, codes, true, false, Some, refl}
+use Rattle.std.proofs.Common.{◌≡◌, ℕ, List, [], ◌∷◌, codes, true, false, None, Some, Ok, Err, refl}
 use Rattle.nm_check.specs.Breaks.{break_at, first_statement_break, least_break, statement_breaks}
 use Rattle.nm_check.specs.Edit.{edited_steps, keys_naming}
+use Rattle.nm_check.specs.Kept.{due_after}
 use Rattle.nm_check.specs.Replay.{statements_at}
+use Rattle.nm_check.specs.Subject.{lines_of}
 use Rattle.nm_check.specs.Timelines.{first_breaks_of, is_named_in, named_by, present_of, timeline_of, timelines_of}
+use Rattle.nm_check.specs.Touched.{blank, edited_from, least_from, least_with, named_count, timeline_at, touched_by, with_timeline}
+use Rattle.nm_check.specs.declared.breaks.EditError.TheVariants as edit_error
 use Rattle.nm_day.proofs.OnLiterals.{days_on_literals}
 use Rattle.nm_ident.specs.declared.ident.Ident.TheVariants.{Local}
 use Rattle.nm_stage.specs.Project.{PlainStep}
@@ -109,3 +113,51 @@ first_step_by_timelines = refl
 absent_and_there : statement_breaks base (step (codes "2027-04-01") 1 [] (second ∷ []) (second ∷ north ∷ []) ∷ [])
     ≡ break_at renames.key Reverse second ∷ break_at renames.key Forward north ∷ []
 absent_and_there = refl
+
+-- ---- what an edit touches
+
+both_touched : touched_by (renames ∷ []) (rests ∷ []) ≡ north ∷ second ∷ []
+both_touched = refl
+
+-- each step counts the statements that it names, and each of these once
+named_by_each : named_count (renames ∷ rests ∷ []) ≡ 3
+named_by_each = refl
+
+named_twice : named_count (step (codes "2027-04-01") 1 (north ∷ []) (north ∷ []) [] ∷ []) ≡ 1
+named_twice = refl
+
+not_there : timeline_at (timelines_of base []) second ≡ blank
+not_there = refl
+
+-- a statement that nothing names is not kept
+taken_out : with_timeline second blank (timelines_of base steps) ≡ (north, timeline_of base steps north) ∷ []
+taken_out = refl
+
+edited_in_turn : edited_from (renames ∷ []) [] (timelines_of base (renames ∷ [])) (timelines_of base (renames ∷ [])) (north ∷ second ∷ []) ≡ timelines_of base []
+unfolding days_on_literals
+edited_in_turn = refl
+
+least_in_turn : least_from (renames ∷ []) [] (timelines_of base steps) None (north ∷ second ∷ []) ≡ Some (break_at rests.key Precondition second)
+unfolding days_on_literals
+least_in_turn = refl
+
+earlier_stays : least_with second (Some (rests.key, Precondition)) (Some (break_at renames.key Forward north)) ≡ Some (break_at renames.key Forward north)
+unfolding days_on_literals
+earlier_stays = refl
+
+-- without the first step the second lacks its precondition, and without the second all fits
+break_due : due_after base (renames ∷ []) [] steps ≡ Err (edit_error.Break (break_at rests.key Precondition second))
+unfolding days_on_literals
+break_due = refl
+
+timelines_due : due_after base (rests ∷ []) [] steps ≡ Ok (timelines_of base (renames ∷ []))
+unfolding days_on_literals
+timelines_due = refl
+
+-- ---- a subject
+
+of_the_substation : lines_of (Local (codes "s")) (timelines_of base []) ≡ timelines_of base []
+of_the_substation = refl
+
+of_another : lines_of (Local (codes "t")) (timelines_of base []) ≡ []
+of_another = refl

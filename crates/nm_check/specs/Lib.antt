@@ -3,3 +3,7 @@ pub mod Breaks
 pub mod Timelines
 pub mod Edit
 pub mod Laws
+pub mod EditError
+pub mod Kept
+pub mod Subject
+pub mod Touched

@@ -1,0 +1,7 @@
+use Rattle.std.proofs.Common.{◌≡◌, take}
+use Rattle.nm_check.specs.Timelines.{present_of}
+use Rattle.nm_tree.specs.Span.{values_of}
+use Rattle.nm_check.proofs.days.copy_present.Given as goal
+
+abbrev pub invariant-loop-pair : goal.invariant-loop-pair
+invariant-loop-pair l = l.present.items ≡ present_of (values_of (take l.pair-index l.pairs)) l.day
