@@ -10,6 +10,8 @@ mod client_heads;
 #[cfg(test)]
 mod days;
 #[cfg(test)]
+mod edits;
+#[cfg(test)]
 mod heads;
 #[cfg(test)]
 mod identifiers;
