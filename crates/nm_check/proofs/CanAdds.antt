@@ -1,5 +1,5 @@
 -- Where steps can be edited, so can the timeline of each statement.
-use Rattle.std.proofs.Common.{◌≡◌, List, [], ◌∷◌, Bool, true, false, ◌||◌, cond, map, refl, ap, subst}
+use Rattle.std.proofs.Common.{◌≡◌, List, [], ◌∷◌, Bool, true, false, ◌||◌, cond, map, refl, subst}
 use Rattle.std.specs.List.{AllByRecursion, IsDistinct, filter}
 use Rattle.std.specs.Ordering.{eq_by_cmp}
 use Rattle.nm_check.proofs.Edits.{entries_without}

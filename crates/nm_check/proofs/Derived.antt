@@ -1,5 +1,5 @@
 -- The orders of the types are the defined ones, so that what the tree says by `cmp` is said by these.
-use Rattle.std.proofs.Common.{◌≡◌, ◌∙◌, List, Bool, true, false, if◌then◌else◌, IfOk, Result, Ok, Err, Ordering, refl, sym, ap, subst}
+use Rattle.std.proofs.Common.{◌≡◌, ◌∙◌, List, true, false, if◌then◌else◌, IfOk, Result, Ok, Err, Ordering, refl, sym, ap, subst}
 use Rattle.nm_statement.proofs.Orders.{derived-statement_cmp}
 use Rattle.nm_statement.specs.Order.{statement_cmp}
 use Rattle.nm_statement.specs.contracts.statement.StatementOrd.TheImpl as statement_ord

@@ -6,7 +6,7 @@ use Rattle.nm_check.proofs.FirstBreak.{first_break_is_the_least}
 use Rattle.nm_check.proofs.Lookups.{same_values}
 use Rattle.nm_check.proofs.Presence.{or_none}
 use Rattle.nm_check.proofs.Values.{has-touched_by, kept, rising-timelines_of, timeline-timelines_of, value-edited_from, value-timelines_of}
-use Rattle.nm_check.specs.Breaks.{IsUnbroken, first_of, first_statement_break, least_break, lesser_break, statement_breaks}
+use Rattle.nm_check.specs.Breaks.{IsUnbroken, first_of, first_statement_break, least_break, statement_breaks}
 use Rattle.nm_check.specs.Edit.{CanEdit, edited_steps, keys_naming}
 use Rattle.nm_check.specs.Kept.{AreKept, AreTimelinesOf, CanEditTimelines, due_after, unless_broken}
 use Rattle.nm_check.specs.Timelines.{breaks_about, entries_of, first_breaks_of, is_named_in, timeline_of, timelines_of}
@@ -17,7 +17,6 @@ use Rattle.nm_day.specs.declared.key.Key.{Key}
 use Rattle.nm_stage.specs.Project.{PlainStep}
 use Rattle.nm_statement.proofs.Orders.{statement_cmp-equal, statement_cmp-total}
 use Rattle.nm_statement.specs.Order.{statement_cmp}
-use Rattle.nm_statement.specs.Set.{has}
 use Rattle.nm_statement.specs.declared.statement.Statement.{Statement}
 use Rattle.nm_timeline.specs.Timeline.{CanAdd, PlainTimeline, edited_of, first_break_of, without_keys}
 use Rattle.nm_timeline.specs.declared.part.Part.{Part}

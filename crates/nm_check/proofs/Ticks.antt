@@ -1,17 +1,16 @@
 -- How many statements are touched, how many timelines there are after changes, and what that costs.
-use Rattle.std.proofs.Common.{◌≡◌, ◌∙◌, ℕ, ◌+◌, ◌*◌, ◌≤◌, List, [], ◌∷◌, ◌++◌, length, Bool, true, false, ◌||◌, not, cond, if◌then◌else◌, map, Ordering, refl, sym, ap, subst, arith}
+use Rattle.std.proofs.Common.{◌≡◌, ◌∙◌, ℕ, ◌+◌, ◌*◌, ◌≤◌, List, [], ◌∷◌, ◌++◌, length, Bool, true, false, ◌||◌, not, cond, if◌then◌else◌, Ordering, refl, sym, ap, subst, arith}
 use Rattle.std.proofs.lemmas.List.{length-append}
 use Rattle.std.proofs.lemmas.List.Folds.{list_any-append}
 use Rattle.std.proofs.Math.Nat.{mul_assoc, mul_comm}
 use Rattle.std.proofs.lemmas.Nat.{mul-le}
 use Rattle.std.specs.BTreeSet.{insert_key}
-use Rattle.std.specs.List.{filter, list_any, sum}
+use Rattle.std.specs.List.{filter}
 use Rattle.std.specs.Ordering.{is_eq, is_gt, is_lt, match_ordering}
 use Rattle.std.specs.declared.cmp.Ordering.TheVariants.{Less, Equal, Greater}
 use Rattle.nm_check.specs.Timelines.{named_by_steps, names_of}
 use Rattle.nm_check.specs.Touched.{is_blank, named_count, touched_by, with_timeline}
 use Rattle.nm_stage.specs.Project.{PlainStep}
-use Rattle.nm_statement.proofs.Orders.{statement_cmp-total}
 use Rattle.nm_statement.proofs.Sets.{has-set_of, set_of-alike}
 use Rattle.nm_statement.specs.Order.{statement_cmp}
 use Rattle.nm_statement.specs.Set.{has, is_same, set_of}

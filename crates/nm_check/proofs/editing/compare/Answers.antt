@@ -1,4 +1,4 @@
-use Rattle.std.proofs.Common.{◌≡◌, ◌∙◌, ap}
+use Rattle.std.proofs.Common.{◌∙◌, ap}
 use Rattle.std.specs.Ordering.{ordering_then}
 use Rattle.nm_statement.proofs.Orders.{derived-statement_cmp}
 use Rattle.nm_check.proofs.Derived.{derived-part_cmp}

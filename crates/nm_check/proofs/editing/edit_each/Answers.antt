@@ -1,4 +1,4 @@
-use Rattle.std.proofs.Common.{◌+◌, ◌*◌, ◌≤◌, length, arith}
+use Rattle.std.proofs.Common.{◌+◌, ◌*◌, length, arith}
 use Rattle.nm_check.proofs.Ticks.{le_from_sum, unit_of}
 use Rattle.nm_check.proofs.Turns.{few_turn, least_turn, steps_turn, tree_turn}
 use Rattle.nm_check.specs.Touched.{edited_at}

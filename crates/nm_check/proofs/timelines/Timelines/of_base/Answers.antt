@@ -1,4 +1,4 @@
-use Rattle.std.proofs.Common.{◌∙◌, ap, map, sym, subst}
+use Rattle.std.proofs.Common.{◌∙◌, ap, map}
 use Rattle.nm_check.specs.Touched.{unchanged}
 use Rattle.nm_check.proofs.Told.{kept_base, rising_base, timelines-base}
 use Rattle.nm_check.proofs.timelines.Timelines.of_base.Goals as goal
