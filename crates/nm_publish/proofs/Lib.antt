@@ -1,0 +1,7 @@
+pub mod Fronts
+pub mod Adding
+pub mod Seats
+pub mod Belonging
+pub mod Reading
+pub mod Committing
+pub mod Beginning

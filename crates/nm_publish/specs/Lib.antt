@@ -1,0 +1,10 @@
+pub mod Piece
+pub mod History
+pub mod Count
+pub mod Shown
+pub mod Sight
+pub mod Nowhere
+pub mod Store
+pub mod Reader
+pub mod Keeper
+pub mod Opening
