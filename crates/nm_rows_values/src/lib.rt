@@ -1,8 +1,10 @@
 //! What single crates below the program do, as tests, and that they have memory enough to do it:
-//! bytes, texts, identifiers, pieces, statements, headers, days, projects, timelines, trees, generated
-//! streams, and requests and replies of HTTP.
+//! bytes, texts, identifiers, pieces, statements, headers, days, projects, timelines, trees, lists in
+//! blocks, generated streams, and requests and replies of HTTP.
 #![tactic(auto)]
 
+#[cfg(test)]
+mod blocks;
 #[cfg(test)]
 mod bytes;
 #[cfg(test)]

@@ -1,0 +1,12 @@
+use Rattle.std.proofs.Common.{rules}
+use Rattle.std.proofs.lemmas.List.Sorted.{IsPartitionPoint-from_clause}
+use Rattle.nm_blocks.specs.Items.{is_up_to}
+use Rattle.nm_blocks.proofs.Places.{counted, falls_up_to, partitioned}
+use Rattle.nm_blocks.proofs.groups.keys_up_to.Goals as goal
+
+pub returns-clause-place : goal.returns-clause-place
+returns-clause-place g c =
+    let test = is_up_to (λ k. k) g.K.Ord.cmp c.args.key.now in
+    let xs = c.args.keys.now in
+    counted test xs c.partition_point.result c.partition_point.ensures.bound
+    (IsPartitionPoint-from_clause test xs c.partition_point.result c.partition_point.ensures.partitioned (partitioned test xs (falls_up_to (λ k. k) g.met.K.Ord.total c.args.key.now xs c.requires)) (λ a r q k. search rules))
