@@ -1,1 +1,2 @@
 pub mod Tens
+pub mod Edits

@@ -2,12 +2,13 @@
 ghost use Rattle.nm_check.specs.Edit.{CanEdit, edited_steps};
 ghost use Rattle.nm_check.specs.Kept.{AreTimelinesOf};
 ghost use Rattle.nm_check.specs.Replay.{HasSets};
+ghost use Rattle.nm_rows_values.specs.Edits.{IsOne, IsPair};
 ghost use Rattle.std.specs.Prelude.{◌≡◌, ◌<◌, [], IfOk};
 
 use nm_base::Steps;
 use nm_check::{EditError, Timelines};
 use nm_day::{Day, Key};
-use nm_ident::{Ident, Ids, Name};
+use nm_ident::{Ident, Ids, Name, NoMemory};
 use nm_stage::Step;
 use nm_statement::{Change, Literal, Object, Set, Statement};
 use nm_timeline::Part;
@@ -79,6 +80,31 @@ fn are_sets(step: &Step)
     let _fwd = step.change.fwd.as_slice();
 }
 
+/// The list of this step.
+fn only(alloc: Global, first: Step) -> Result<Vec<Step>, NoMemory>
+    ensures { IfOk result (λ steps. IsOne steps.items) }
+{
+    are_sets(&first);
+    let mut steps = Vec::new(alloc);
+    steps.push(first)?;
+    Ok(steps)
+}
+
+/// The list of these steps, which stand at different keys.
+fn pair(alloc: Global, first: Step, second: Step) -> Result<Vec<Step>, NoMemory>
+    ensures { IfOk result (λ steps. IsPair steps.items) }
+{
+    are_sets(&first);
+    are_sets(&second);
+    if first.key == second.key {
+        return Err(NoMemory);
+    }
+    let mut steps = Vec::new(alloc);
+    steps.push(first)?;
+    steps.push(second)?;
+    Ok(steps)
+}
+
 /// The timelines of a base and these steps.
 fn filed<L: Ledger>(
     alloc: Global,
@@ -89,6 +115,7 @@ fn filed<L: Ledger>(
     requires { CanEdit [] added.now [] }
     ensures { IfOk result (λ timelines. AreTimelinesOf base.now (edited_steps [] added.now []) timelines) }
 {
+    let _statements = base.as_slice();
     let timelines = Timelines::of_base(alloc, base, counted)?;
     timelines.edit(alloc, &[], added, counted)
 }
@@ -97,78 +124,65 @@ fn filed<L: Ledger>(
 fn with_one<L: Ledger>(
     alloc: Global,
     base: &Set,
-    first: Step,
+    added: &[Step],
     counted: &mut Steps<L>,
-) -> Result<Timelines, EditError> {
-    are_sets(&first);
-    let added = [first];
-    filed(alloc, base, &added, counted)
+) -> Result<Timelines, EditError>
+    requires { IsOne added.now }
+{
+    filed(alloc, base, added, counted)
 }
 
-/// The timelines of a base and two steps at different keys.
+/// The timelines of a base and two steps.
 fn with_two<L: Ledger>(
     alloc: Global,
     base: &Set,
-    first: Step,
-    second: Step,
+    added: &[Step],
     counted: &mut Steps<L>,
-) -> Result<Timelines, EditError> {
-    are_sets(&first);
-    are_sets(&second);
-    if first.key == second.key {
-        return Err(EditError::NoMemory);
-    }
-    let added = [first, second];
-    filed(alloc, base, &added, counted)
+) -> Result<Timelines, EditError>
+    requires { IsPair added.now }
+{
+    filed(alloc, base, added, counted)
 }
 
 /// The timelines of a base after a step was filed and withdrawn.
 fn withdrawn<L: Ledger>(
     alloc: Global,
     base: &Set,
-    first: Step,
+    taken: &[Step],
     counted: &mut Steps<L>,
-) -> Result<Timelines, EditError> {
-    are_sets(&first);
-    let taken = [first];
-    let timelines = filed(alloc, base, &taken, counted)?;
-    timelines.edit(alloc, &taken, &[], counted)
+) -> Result<Timelines, EditError>
+    requires { IsOne taken.now }
+{
+    let timelines = filed(alloc, base, taken, counted)?;
+    timelines.edit(alloc, taken, &[], counted)
 }
 
 /// The timelines of a base after a step was filed, and moved to where the later one stands.
-fn moved<L: Ledger>(
+fn moved<'a, L: Ledger>(
     alloc: Global,
     base: &Set,
-    first: Step,
-    later: Step,
+    taken: &'a [Step],
+    later: &'a [Step],
     counted: &mut Steps<L>,
-) -> Result<Timelines, EditError> {
-    are_sets(&first);
-    are_sets(&later);
-    let taken = [first];
-    let added = [later];
-    let timelines = filed(alloc, base, &taken, counted)?;
-    timelines.edit(alloc, &taken, &added, counted)
+) -> Result<Timelines, EditError>
+    requires taken { IsOne taken.now }
+    requires later { IsOne later.now }
+{
+    let timelines = filed(alloc, base, taken, counted)?;
+    timelines.edit(alloc, taken, later, counted)
 }
 
 /// The timelines of a base after two steps were filed, and the first withdrawn.
 fn first_withdrawn<L: Ledger>(
     alloc: Global,
     base: &Set,
-    first: Step,
-    second: Step,
+    both: &[Step],
     counted: &mut Steps<L>,
-) -> Result<Timelines, EditError> {
-    are_sets(&first);
-    are_sets(&second);
-    if first.key == second.key {
-        return Err(EditError::NoMemory);
-    }
-    let taken = [first];
-    let others = [second];
-    let timelines = filed(alloc, base, &taken, counted)?;
-    let timelines = timelines.edit(alloc, &[], &others, counted)?;
-    timelines.edit(alloc, &taken, &[], counted)
+) -> Result<Timelines, EditError>
+    requires { IsPair both.now }
+{
+    let timelines = filed(alloc, base, both, counted)?;
+    timelines.edit(alloc, &both[..1], &[], counted)
 }
 
 // ---- what is told
@@ -230,8 +244,9 @@ fn lost_precondition<L: Ledger>(alloc: Global, blank: Blank) -> Result<(u32, Par
     let statement = named(alloc, b"North 2")?;
     let first = renames(alloc, b"2027-04-01")?;
     let second = rests(alloc)?;
+    let both = pair(alloc, first, second)?;
     break_of(
-        first_withdrawn(alloc, &base, first, second, &mut counted),
+        first_withdrawn(alloc, &base, &both, &mut counted),
         &statement,
     )
 }
@@ -252,7 +267,8 @@ fn least_part<L: Ledger>(alloc: Global, blank: Blank) -> Result<(u32, Part, bool
     let base = north(alloc)?;
     let statement = named(alloc, b"South")?;
     let both = step(alloc, b"2027-04-01", 1, (&[], &[b"South"], &[b"North"]))?;
-    break_of(with_one(alloc, &base, both, &mut counted), &statement)
+    let added = only(alloc, both)?;
+    break_of(with_one(alloc, &base, &added, &mut counted), &statement)
 }
 
 #[test]
@@ -272,10 +288,8 @@ fn first_step<L: Ledger>(alloc: Global, blank: Blank) -> Result<(u32, Part, bool
     let statement = named(alloc, b"North")?;
     let later = step(alloc, b"2027-05-01", 1, (&[b"East"], &[], &[]))?;
     let earlier = step(alloc, b"2027-04-01", 2, (&[], &[], &[b"North"]))?;
-    break_of(
-        with_two(alloc, &base, later, earlier, &mut counted),
-        &statement,
-    )
+    let both = pair(alloc, later, earlier)?;
+    break_of(with_two(alloc, &base, &both, &mut counted), &statement)
 }
 
 #[test]
@@ -296,7 +310,8 @@ fn told_after_a_withdrawal<L: Ledger>(
     let mut counted = Steps::<L>::start(blank);
     let base = north(alloc)?;
     let needs = step(alloc, b"2027-04-01", 1, (&[b"North"], &[], &[b"South"]))?;
-    let timelines = ok(withdrawn(alloc, &base, needs, &mut counted))?;
+    let taken = only(alloc, needs)?;
+    let timelines = ok(withdrawn(alloc, &base, &taken, &mut counted))?;
     told(alloc, &timelines.share()?, b"2027-05-01")
 }
 
@@ -327,7 +342,9 @@ fn told_after_a_move<L: Ledger>(
     let base = north(alloc)?;
     let first = step(alloc, b"2027-04-01", 1, (&[], &[b"North"], &[]))?;
     let later = step(alloc, b"2027-06-01", 1, (&[], &[b"North"], &[]))?;
-    let timelines = ok(moved(alloc, &base, first, later, &mut counted))?;
+    let taken = only(alloc, first)?;
+    let added = only(alloc, later)?;
+    let timelines = ok(moved(alloc, &base, &taken, &added, &mut counted))?;
     told(alloc, &timelines, text)
 }
 
@@ -349,7 +366,8 @@ fn both_parts<L: Ledger>(alloc: Global, blank: Blank) -> Result<(u32, Part, bool
     let base = north(alloc)?;
     let statement = named(alloc, b"North")?;
     let both = step(alloc, b"2027-04-01", 1, (&[], &[b"North"], &[b"North"]))?;
-    break_of(with_one(alloc, &base, both, &mut counted), &statement)
+    let added = only(alloc, both)?;
+    break_of(with_one(alloc, &base, &added, &mut counted), &statement)
 }
 
 #[test]
