@@ -1,5 +1,5 @@
 -- Steps that can be filed, moved and withdrawn.
-use Rattle.std.proofs.Common.{◌≡◌, ◌∙◌, take, List, [], ◌∷◌, length, Contains, Bool, true, false, ◌||◌, not, cond, Option, None, Some, Result, Ok, Err, IfOk, Ordering, refl, sym, ap, subst, arith}
+use Rattle.std.proofs.Common.{◌≡◌, ◌∙◌, take, List, [], ◌∷◌, Contains, Bool, false, ◌||◌, not, cond, Option, None, Some, Result, Ok, Err, IfOk, Ordering, refl, sym, ap, subst, arith}
 use Rattle.std.proofs.lemmas.Cmp.{tied_itself}
 use Rattle.std.specs.BTreeSet.{insert_key}
 use Rattle.std.specs.List.{IsDistinct}
@@ -12,7 +12,7 @@ use Rattle.nm_check.specs.Edit.{CanEdit, edited_steps, is_step_taken}
 use Rattle.nm_check.specs.EditError.{wants_memory}
 use Rattle.nm_rows_values.specs.Edits.{IsOne, IsPair}
 use Rattle.nm_check.specs.Kept.{AreTimelinesOf, CanEditTimelines, due_after, unless_broken}
-use Rattle.nm_check.specs.Replay.{AreSteps, HasSets, step_cmp}
+use Rattle.nm_check.specs.Replay.{HasSets, step_cmp}
 use Rattle.nm_check.specs.Timelines.{timelines_of}
 use Rattle.nm_check.specs.declared.breaks.Break.{Break}
 use Rattle.nm_check.specs.declared.breaks.EditError.{EditError}

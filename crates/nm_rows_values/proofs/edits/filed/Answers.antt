@@ -6,11 +6,11 @@ pub edit-requires : goal.edit-requires
 edit-requires g c = record {
   base = c.args.base.now;
   steps = [];
-  those = those_of_base c.args.base.now c.in_ok-timelines.timelines c.as_slice.ensures.rising c.in_ok-timelines.ensures.timelines;
+  those = those_of_base c.args.base.now c.in_ok-timelines.timelines c.as_slice-statements.ensures.rising c.in_ok-timelines.ensures.timelines;
   can = c.requires;
 }
 
 pub returns : goal.returns
 returns g c =
-    let those = those_of_base c.args.base.now c.in_ok-timelines.timelines c.as_slice.ensures.rising c.in_ok-timelines.ensures.timelines in
+    let those = those_of_base c.args.base.now c.in_ok-timelines.timelines c.as_slice-statements.ensures.rising c.in_ok-timelines.ensures.timelines in
     those_after c.edit.result c.args.base.now [] c.args.added.now [] c.in_ok-timelines.timelines those c.requires (c.edit.ensures.due c.args.base.now [] those c.requires)
