@@ -4,9 +4,9 @@ ghost use Rattle.nm_base.specs.Faults.{one_more};
 use crate::flow::Failed;
 use std::marker::Model;
 
-/// A count of faults, which stays at the end of its type. A contract sees the number.
+/// A count of faults, which stays at 2^64 - 1 once it is there. A contract sees the number.
 #[derive(Drop)]
-pub(crate) struct FaultCount {
+pub struct FaultCount {
     faults: u64,
 }
 
@@ -19,14 +19,15 @@ impl Model for FaultCount {
 }
 
 impl FaultCount {
-    pub(crate) fn new() -> FaultCount
+    /// A count of no faults.
+    pub fn new() -> FaultCount
         ensures { result ≡ 0 }
     {
         FaultCount { faults: 0 }
     }
 
     /// Counts a fault, and gives the answer that goes with it.
-    pub(crate) fn raise(&mut self) -> Failed
+    pub fn raise(&mut self) -> Failed
         ensures raised { self.new ≡ one_more self.old }
         ensures kept { self.old ≤ self.new }
     {

@@ -5,13 +5,16 @@
 //! who answers "the outside failed" can be held to it: such an answer is right only where the
 //! count rose. [`MemorySource`] and [`MemorySink`] fail at calls of the caller's choice,
 //! [`SteadySource`] never fails, [`SteadySink`] fails only once its room is used up, and
-//! [`ReadSource`] and [`WriteSink`] stand over a real reader and writer.
+//! [`ReadSource`] and [`WriteSink`] stand over a real reader and writer. Whoever writes a source, a
+//! sink or a listener of their own counts with a [`FaultCount`], and fails by a [`FaultPlan`].
 #![tactic(auto)]
 
 pub use adapters::{ReadSource, WriteSink};
+pub use count::FaultCount;
 pub use flow::{Failed, Sink, Source, write_whole};
 pub use memory::{MemorySink, MemorySource};
 pub use outcome::{Limit, Status};
+pub use plan::FaultPlan;
 pub use std::alloc::AllocError as NoMemory;
 pub use steady::{SteadySink, SteadySource};
 pub use steps::Steps;

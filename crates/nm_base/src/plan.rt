@@ -9,7 +9,7 @@ use std::marker::Model;
 
 /// Which calls are to fail, and how far the calls have come.
 #[derive(Drop)]
-pub(crate) struct FaultPlan {
+pub struct FaultPlan {
     fails: Vec<u32>,
     calls: u64,
     faults: FaultCount,
@@ -24,7 +24,9 @@ impl Model for FaultPlan {
 }
 
 impl FaultPlan {
-    pub(crate) fn new(fails: Vec<u32>) -> FaultPlan
+    /// A plan before its first call, of which the calls with the numbers `fails` fail. The first
+    /// call has number 0.
+    pub fn new(fails: Vec<u32>) -> FaultPlan
         ensures { result ≡ plan_of fails.items }
     {
         FaultPlan {
@@ -35,7 +37,7 @@ impl FaultPlan {
     }
 
     /// Begins the next call, which fails where its number is listed.
-    pub(crate) fn begin_call(&mut self) -> Result<(), Failed>
+    pub fn begin_call(&mut self) -> Result<(), Failed>
         ensures listed { is_err result ≡ fails_next self.old }
         ensures plan { Advances self.old self.new result }
         ensures counted { CountsFaults self.old.faults self.new.faults result }
@@ -54,8 +56,8 @@ impl FaultPlan {
         self.fails.iter().any(|listed| u64::from(*listed) == number)
     }
 
-    /// Counts a fault.
-    pub(crate) fn fault(&mut self) -> Failed
+    /// Counts a fault that the plan does not list, such as a call past the end of what is there.
+    pub fn fault(&mut self) -> Failed
         ensures { CountsFault self.old self.new }
     {
         self.faults.raise()
