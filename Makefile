@@ -37,8 +37,11 @@ bench: $(NM)
 ifdef PREFIX
 install: $(NM)
 	install -D -m 755 $(NM) "$(DESTDIR)$(PREFIX)/bin/nm"
+	install -D -m 755 planner/nm-store "$(DESTDIR)$(PREFIX)/bin/nm-store"
 	install -D -m 644 man/nm.1 "$(DESTDIR)$(PREFIX)/share/man/man1/nm.1"
-	@echo "installed $(PREFIX)/bin/nm and its man page. binutils has a program nm too: the first on the PATH is run."
+	install -D -m 644 man/nm-store.1 "$(DESTDIR)$(PREFIX)/share/man/man1/nm-store.1"
+	install -D -m 644 planner/nm-store.bash "$(DESTDIR)$(PREFIX)/share/bash-completion/completions/nm-store"
+	@echo "installed $(PREFIX)/bin/nm and nm-store, and their man pages. binutils has a program nm too: the first on the PATH is run."
 else
 install:
 	@echo "make install wants to be told where, as in: make install PREFIX=$$HOME/.local" >&2
