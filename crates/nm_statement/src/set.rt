@@ -115,6 +115,14 @@ impl Set {
         &self.statements
     }
 
+    /// The list of the statements, in order. Nothing is copied.
+    pub fn into_list(self) -> Vec<Statement>
+        ensures statements { result.items ≡ self }
+        ensures rising { IsRising result.items }
+    {
+        self.statements
+    }
+
     /// The statements, in order.
     pub fn iter(&self) -> SetIter<'_>
         ensures statements { iter_rest result ≡ self.now }
