@@ -5,7 +5,7 @@ use Rattle.std.proofs.lemmas.List.Kept.{IsStrictlySortedBy-filter}
 use Rattle.std.proofs.lemmas.Map.Views.{any-filter_same, tells_apart}
 use Rattle.std.specs.List.{filter}
 use Rattle.nm_check.proofs.Presence.{or_none, presence_is_by_timelines}
-use Rattle.nm_check.specs.Laws.{StatementsAreOfTimelines}
+use Rattle.nm_check.specs.Laws.{BaseIsOfTimelines, StatementsAreOfTimelines}
 use Rattle.nm_check.specs.Replay.{after_changes, changes_of, in_service, set_after, statements_at}
 use Rattle.nm_check.specs.Timelines.{entries_of, entry_of, is_named, is_named_in, named_by, named_by_steps, names_of, timeline_of}
 use Rattle.nm_stage.specs.Project.{PlainStep}
@@ -95,6 +95,30 @@ module _ (base : List Statement) (steps : List PlainStep) (day : List ℕ) where
   has-present s =
       any-filter_same (is_same s) present (present s) (λ y same. ap present (sym (tells_apart statement_cmp-equal s y same))) (named_by base steps)
       ∙ present_and_named s
+
+-- ---- the base
+
+module _ (base : List Statement) (steps : List PlainStep) where
+  -- what the base has is named
+  base_and_named : (s : Statement) → (has base s && has (named_by base steps) s) ≡ has base s
+  base_and_named s = ap (λ b. has base s && b) (has-named_by base steps s) ∙ by (has base s) (is_named_in steps s)
+    where
+      by : (b n : Bool) → (b && (b || n)) ≡ b
+      by true n = refl
+      by false n = refl
+
+  has-based : (s : Statement) → has (filter (has base) (named_by base steps)) s ≡ has base s
+  has-based s =
+      any-filter_same (is_same s) (has base) (has base s) (λ y same. ap (has base) (sym (tells_apart statement_cmp-equal s y same))) (named_by base steps)
+      ∙ base_and_named s
+
+pub base_is_of_timelines : BaseIsOfTimelines
+base_is_of_timelines base steps rising =
+    of_pairs (λ (t : PlainTimeline). t.base) (timeline_of base steps) (named_by base steps)
+    ∙ sym
+    (members_make_sets base (filter (has base) (named_by base steps)) rising
+    (IsStrictlySortedBy-filter statement_cmp (has base) (named_by base steps) (rising-set_of (base ++ named_by_steps steps)))
+    (λ s. sym (has-based base steps s)))
 
 pub statements_are_of_timelines : StatementsAreOfTimelines
 statements_are_of_timelines base steps day rising =

@@ -3,7 +3,7 @@ use Rattle.std.specs.Prelude.{◌≡◌, ℕ, List, ◌||◌, true, false, map}
 use Rattle.nm_check.specs.Breaks.{IsUnbroken, first_statement_break, least_break}
 use Rattle.nm_check.specs.Edit.{CanEdit, edited_steps, keys_naming}
 use Rattle.nm_check.specs.Replay.{AreSteps, statements_at}
-use Rattle.nm_check.specs.Timelines.{entries_of, first_breaks_of, is_named_in, present_of, timeline_of, timelines_of}
+use Rattle.nm_check.specs.Timelines.{base_of, entries_of, first_breaks_of, is_named_in, present_of, timeline_of, timelines_of}
 use Rattle.nm_stage.specs.Project.{PlainStep}
 use Rattle.nm_statement.specs.Set.{IsRising, has}
 use Rattle.nm_statement.specs.declared.statement.Statement.{Statement}
@@ -20,6 +20,11 @@ abbrev pub StatementsAreOfTimelines : Type 0
 StatementsAreOfTimelines =
     (base : List Statement) (steps : List PlainStep) (day : List ℕ) → IsRising base
     → statements_at base steps day ≡ present_of (timelines_of base steps) day
+
+-- the base can be told from the timelines
+abbrev pub BaseIsOfTimelines : Type 0
+BaseIsOfTimelines =
+    (base : List Statement) (steps : List PlainStep) → IsRising base → base_of (timelines_of base steps) ≡ base
 
 -- the first statement that does not fit is the least of the first ones of the timelines
 abbrev pub FirstBreakIsTheLeast : Type 0

@@ -50,6 +50,10 @@ timelines_of base steps = map (λ statement. (statement, timeline_of base steps 
 
 -- ---- what they tell
 
+-- the statements of the base
+abbrev pub base_of : List (Statement × PlainTimeline) → List Statement
+base_of timelines = map (λ pair. pair.0) (filter (λ pair. pair.1.base) timelines)
+
 -- the statements that are there on a day
 abbrev pub present_of : List (Statement × PlainTimeline) → List ℕ → List Statement
 present_of timelines day = map (λ pair. pair.0) (filter (λ pair. present_at pair.1 day) timelines)

@@ -10,13 +10,13 @@ use std::alloc::Global;
 /// The statements, each with the timeline of one that the base has and no step names.
 pub(crate) fn pairs_of(
     alloc: Global,
-    base: &[Statement],
+    base: Vec<Statement>,
 ) -> Result<Vec<(Statement, Timeline)>, NoMemory>
-    ensures { IfOk result (λ pairs. pairs.items ≡ map (λ statement. (statement, unchanged)) base.now) }
+    ensures { IfOk result (λ pairs. pairs.items ≡ map (λ statement. (statement, unchanged)) base.items) }
 {
     let mut pairs = Vec::with_capacity(alloc, base.len())?;
     for statement in base {
-        pairs.push((statement.copy(alloc)?, Timeline::new(alloc, true)))?;
+        pairs.push((statement, Timeline::new(alloc, true)))?;
     }
     Ok(pairs)
 }

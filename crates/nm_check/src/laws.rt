@@ -9,6 +9,11 @@ pub fn presence_is_by_timelines()
     ensures statements { law.StatementsAreOfTimelines }
 {}
 
+/// The statements of a base are those whose timeline says so.
+pub fn base_is_of_timelines()
+    ensures { law.BaseIsOfTimelines }
+{}
+
 /// The replay of steps in order has a statement that does not fit exactly where some timeline has
 /// an entry that does not, and the first is the least of those of the timelines, by key, part and
 /// statement.

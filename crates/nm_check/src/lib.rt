@@ -12,5 +12,8 @@ mod threads;
 mod timelines;
 
 pub use breaks::{Break, EditError};
-pub use laws::{edits_touch_what_is_named, first_break_is_the_least, presence_is_by_timelines};
+pub use laws::{
+    base_is_of_timelines, edits_touch_what_is_named, first_break_is_the_least,
+    presence_is_by_timelines,
+};
 pub use timelines::{Lines, Timelines};

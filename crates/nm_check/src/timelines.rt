@@ -3,10 +3,11 @@ ghost use Rattle.nm_check.specs.Kept.{AreTimelinesOf, CanEditTimelines, due_afte
 ghost use Rattle.nm_check.specs.Edit.{CanEdit};
 ghost use Rattle.nm_check.specs.EditError.{wants_memory};
 ghost use Rattle.nm_check.specs.Replay.{statements_at};
-ghost use Rattle.nm_check.specs.Subject.{lines_of};
-ghost use Rattle.nm_check.specs.Timelines.{timelines_of};
+ghost use Rattle.nm_check.specs.Subject.{lines_of, object_at};
+ghost use Rattle.nm_check.specs.Timelines.{base_of, timelines_of};
 ghost use Rattle.nm_check.specs.Touched.{named_count};
 ghost use Rattle.nm_stage.specs.Project.{PlainStep};
+ghost use Rattle.nm_statement.specs.Set.{IsRising};
 ghost use Rattle.nm_statement.specs.declared.statement.Statement as declared;
 ghost use Rattle.nm_terms.specs.Due.{IsDue};
 ghost use Rattle.nm_tree.specs.Depth.{depth_of};
@@ -66,7 +67,21 @@ impl Timelines {
         ensures steps { OnOk result (steps.new ≡ steps.old + length base.now) }
         ensures most_steps { steps.new ≤ steps.old + length base.now }
     {
-        let pairs = pairs_of(alloc, base.as_slice())?;
+        Timelines::taking_base(alloc, base.copy(alloc)?, steps)
+    }
+
+    /// The timelines of the statements of a base without steps, which take the statements themselves
+    /// and copy none. This takes one step for each.
+    pub fn taking_base<L: Ledger>(
+        alloc: Global,
+        base: Set,
+        steps: &mut Steps<L>,
+    ) -> Result<Timelines, NoMemory>
+        ensures timelines { IfOk result (λ timelines. timelines ≡ timelines_of base []) }
+        ensures steps { OnOk result (steps.new ≡ steps.old + length base) }
+        ensures most_steps { steps.new ≤ steps.old + length base }
+    {
+        let pairs = pairs_of(alloc, base.into_list())?;
         Ok(Timelines {
             tree: Tree::from_sorted(alloc, pairs, steps)?,
         })
@@ -118,6 +133,15 @@ impl Timelines {
         Ok(count_present(lines.as_slice(), day))
     }
 
+    /// The statements of a subject that are there on a day. Those of other subjects are not looked
+    /// at.
+    pub fn object(&self, alloc: Global, day: Day, subject: &Ident) -> Result<Set, NoMemory>
+        ensures { IfOk result (λ set. (base : List declared.Statement) (steps : List PlainStep) → AreTimelinesOf base steps self.now → set ≡ object_at base steps day subject.now) }
+    {
+        let lines = self.of_subject(alloc, subject)?;
+        set_of_present(alloc, lines.as_slice(), day)
+    }
+
     /// The statements of a subject, in order, each with its timeline.
     pub fn of_subject(&self, alloc: Global, subject: &Ident) -> Result<Lines<'_>, NoMemory>
         ensures { IfOk result (λ lines. lines ≡ lines_of subject.now self.now) }
@@ -159,6 +183,14 @@ impl Timelines {
         Ok(Timelines {
             tree: self.tree.share()?,
         })
+    }
+
+    /// The statements of the base stand among these in order. It takes no time: a call brings to a
+    /// proof what the type keeps.
+    pub fn base_is_in_order(&self)
+        ensures { IsRising (base_of self.now) }
+    {
+        let _tree = &self.tree;
     }
 
     /// How many statements have a timeline.

@@ -5,3 +5,4 @@ pub mod Belonging
 pub mod Reading
 pub mod Committing
 pub mod Beginning
+pub mod Crossing

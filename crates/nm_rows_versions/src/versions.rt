@@ -283,10 +283,10 @@ fn race<H: Site + Send + Sync, R: Threads + Wait + Sync>(
         })?;
     }
     let found = lookers.as_mut_slice();
-    let (written, ()) = join(
+    let ((), written) = join(
         rt,
-        move || write_on(rt, alloc, keeper, reader, &held),
         move || thread::for_each_mut(rt, found, 4, &|_, looker| looker.look_on()),
+        move || write_on(rt, alloc, keeper, reader, &held),
     );
     let written = written?;
     added_up(alloc, written, lookers)

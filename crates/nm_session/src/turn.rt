@@ -188,7 +188,7 @@ fn summarized(alloc: Global, version: &Version, day: Day) -> Result<Vec<u8>, NoM
     ensures { IfOk result (λ reply. reply.items ≡ summary_reply (number_of version.now) (length version.now.live)
         (length (statements_at version.now.base version.now.live day))) }
 {
-    let statements = version.assemble(alloc, day)?.statements.len();
+    let statements = version.count(alloc, day)?;
     summary(alloc, version.number(), version.live(), statements)
 }
 

@@ -1,5 +1,5 @@
 -- What an allowed command leads to.
-use Rattle.std.proofs.Common.{◌≡◌, ◌∙◌, ℕ, ◌+◌, ◌<◌, ◌≤◌, [], ◌∷◌, ◌++◌, Bool, true, false, ◌||◌, length, sum_by, Option, None, Some, Ok, Err, nat_lt, nat_le, refl, sym, ap, arith}
+use Rattle.std.proofs.Common.{◌≡◌, ◌∙◌, ℕ, ◌+◌, ◌<◌, ◌≤◌, List, [], ◌∷◌, ◌++◌, Bool, true, false, ◌||◌, length, sum_by, Option, None, Some, Ok, Err, nat_lt, nat_le, refl, sym, ap, arith}
 use Rattle.std.proofs.lemmas.Bool.Decides.{nat_tests}
 use Rattle.std.proofs.lemmas.List.{length-append, map-append}
 use Rattle.std.proofs.lemmas.List.Sums.{fold-append, sum_by-append}
@@ -9,6 +9,8 @@ use Rattle.nm_model.specs.declared.document.Document.TheVariants as document
 use Rattle.nm_reader.specs.Input.{IsDocumentOf}
 use Rattle.nm_terms.specs.Due.{OrWant}
 use Rattle.nm_stage.specs.Live.{holds}
+use Rattle.nm_statement.specs.declared.statement.Statement.{Statement}
+use Rattle.nm_timeline.specs.Timeline.{PlainTimeline}
 use Rattle.nm_version.specs.After.{IsReached, accepted, after, commit_of, or_before, result_of}
 use Rattle.nm_version.specs.Changed.{live_after}
 use Rattle.nm_version.specs.Command.{HasLine, IsSpelt, document_size, entry_of}
@@ -16,10 +18,10 @@ use Rattle.nm_version.specs.Kept.{Kept, number_of, opened, size_of}
 use Rattle.nm_version.specs.Limits.{largest_store, most_commits}
 use Rattle.nm_version.specs.Refusal.{bytes_refusal, commits_refusal, early_refusal, is_in_use, kind_refusal, refusal_of, refused_where, steps_refusal, superseding_refusal, unknown_refusal, use_refusal, wants_memory}
 use Rattle.nm_version.specs.Replay.{first_break}
+use Rattle.nm_version.specs.Timelines.{timelines_over}
 use Rattle.nm_version.specs.Within.{IsWithin}
 use Rattle.nm_version.specs.declared.command.Command.{Command}
 use Rattle.nm_version.specs.declared.command.Command.TheVariants.{File, Revise, Redate, Withdraw}
-use Rattle.nm_version.specs.declared.command.Entry.{Entry}
 use Rattle.nm_version.specs.declared.refusal.Refusal.{Refusal}
 use Rattle.nm_version.specs.declared.refusal.Refusal.TheVariants as refusal
 
@@ -143,18 +145,16 @@ fits_with kept (Revise id model bytes) e h = at_most largest_store (size_of kept
 fits_with kept (Redate id day) e h = omega arith
 fits_with kept (Withdraw id) e h = omega arith
 
-pub within_after : (kept : Kept) (command : Command) (size : ℕ) → IsWithin kept size → IsSpelt command → HasLine command → early_refusal kept command ≡ None → commit_of kept command ≡ Ok (accepted kept command)
-    → IsWithin (accepted kept command) (size + document_size (entry_of command))
-within_after kept command size w spelt line early e =
+pub within_after : (kept : Kept) (command : Command) (old new : List (Statement × PlainTimeline)) (size : ℕ) → IsWithin kept old size → IsSpelt command → HasLine command
+    → early_refusal kept command ≡ None → commit_of kept command ≡ Ok (accepted kept command) → new ≡ timelines_over kept.base (live_after kept command)
+    → IsWithin (accepted kept command) new (size + document_size (entry_of command))
+within_after kept command old new size w spelt line early e timed =
     let a = allowed kept command early in
     record {
       reached = accepted_reached kept command w.reached spelt line e;
+      rising = w.rising;
+      timed = timed;
       numbered = omega (arith, length-append kept.log (entry_of command ∷ []), few_commits kept a.commits);
       sized = omega (arith, size_more kept command, w.sized);
       fits = omega (arith, fits_with kept command a.bytes (omega (arith, w.sized, w.fits)), w.sized);
     }
-
-pub kept_after : (kept : Kept) (command : Command) (new : Kept) (entry : Entry) → new.base ≡ kept.base → new.bytes ≡ kept.bytes → new.live ≡ live_after kept command
-    → new.log ≡ kept.log ++ entry ∷ [] → entry ≡ entry_of command → new ≡ accepted kept command
-kept_after kept command new entry base bytes live log same =
-    λ i. record { base = base i; bytes = bytes i; live = live i; log = (log ∙ ap (λ e. kept.log ++ e ∷ []) same) i }

@@ -12,6 +12,7 @@ use Rattle.std.specs.declared.cmp.Ordering.TheVariants.{Less, Equal, Greater}
 use Rattle.nm_check.proofs.Edits.{step_cmp-total}
 use Rattle.nm_check.proofs.Rising.{all_map}
 use Rattle.nm_check.specs.Edit.{edited_steps, is_step_taken, keys_of, without_steps}
+use Rattle.nm_check.specs.Kept.{AreTimelinesOf}
 use Rattle.nm_check.specs.Replay.{AreSteps, HasSets, step_cmp}
 use Rattle.nm_day.proofs.Orders.{key_cmp-total}
 use Rattle.nm_day.specs.Key.{key_cmp}
@@ -36,7 +37,7 @@ use Rattle.nm_statement.specs.Set.{IsRising}
 use Rattle.nm_statement.specs.Sound.{is_sound_set}
 use Rattle.nm_statement.specs.declared.set.Change.{Change}
 use Rattle.nm_statement.specs.declared.statement.Statement.{Statement}
-use Rattle.nm_timeline.specs.Timeline.{has_key}
+use Rattle.nm_timeline.specs.Timeline.{PlainTimeline, has_key}
 use Rattle.nm_version.proofs.Commits.{allowed}
 use Rattle.nm_version.proofs.Filings.{all_filtered, all_replaced, are_numbers, of_found}
 use Rattle.nm_version.proofs.Lesser.{by_filing, find_own}
@@ -48,6 +49,7 @@ use Rattle.nm_version.specs.Command.{IsSpelt}
 use Rattle.nm_version.specs.Edits.{CommandsEditSteps, IsEdit, own_step, step_redated, step_revised}
 use Rattle.nm_version.specs.Kept.{Kept, number_of, opened}
 use Rattle.nm_version.specs.Refusal.{kind_of, unknown_of}
+use Rattle.nm_version.specs.Timelines.{timelines_over}
 use Rattle.nm_version.specs.declared.command.Command.{Command}
 use Rattle.nm_version.specs.declared.command.Command.TheVariants.{File, Revise, Redate, Withdraw}
 
@@ -313,3 +315,13 @@ commands_edit_steps kept (Redate id day) r spelt early =
 commands_edit_steps kept (Withdraw id) r spelt early =
     let a = allowed kept (Withdraw id) early in
     withdrawn kept r id (project_of id kept.live) refl a.unknown
+
+-- ---- the timelines of what is reached
+
+pub timelines_kept : (kept : Kept) (timelines : List (Statement × PlainTimeline)) → IsReached kept → timelines ≡ timelines_over kept.base kept.live → IsRising kept.base.statements
+    → AreTimelinesOf kept.base.statements (steps_of kept.live) timelines
+timelines_kept kept timelines r timed rising = record {
+  rising = rising;
+  are = are_steps kept.live (live kept r) (of_sets kept r);
+  timelines_are = timed;
+}

@@ -8,14 +8,13 @@ use Rattle.nm_stage.specs.Dependencies.{least_of, missing_from, missing_or, unme
 use Rattle.nm_stage.specs.Project.{PlainProject, step_of}
 use Rattle.nm_stage.specs.Steps.{in_order}
 use Rattle.nm_statement.specs.declared.statement.Statement.{Statement}
-use Rattle.nm_version.proofs.Breaks.{first_break_at, first_cause}
+use Rattle.nm_version.proofs.Breaks.{cause_or, first_break_at, first_cause}
 use Rattle.nm_version.proofs.Lesser.{causes_are}
 use Rattle.nm_version.proofs.Reached.{AllAccepted, after_accepted, none_refused}
 use Rattle.nm_version.specs.After.{accepted, after_all}
 use Rattle.nm_version.specs.Changed.{live_after}
 use Rattle.nm_version.specs.Kept.{Kept, opened}
 use Rattle.nm_version.specs.Lesser.{Fits, WhatIsReachedFits, cause_of}
-use Rattle.nm_version.specs.Missing.{cause_or}
 use Rattle.nm_version.specs.Refusal.{early_refusal, refusal_of}
 use Rattle.nm_check.specs.Replay.{set_after}
 use Rattle.nm_version.specs.Replay.{breaks, causes, first_break, known_before, refusal_at}

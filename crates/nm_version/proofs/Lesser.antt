@@ -21,16 +21,15 @@ use Rattle.nm_ident.proofs.Rising.{all_append, all_weaker}
 use Rattle.nm_stage.proofs.Orders.{live_projects_stand_in_order}
 use Rattle.nm_stage.specs.Dependencies.{least_of, missing_from, missing_of, missing_or, unmet}
 use Rattle.nm_stage.specs.Laws.{InOrder}
-use Rattle.nm_stage.specs.Live.{filing_cmp}
+use Rattle.nm_stage.specs.Live.{IsLive, filing_cmp}
 use Rattle.nm_stage.specs.Project.{PlainProject, PlainStep, key_of, model_of, step_of}
 use Rattle.nm_stage.specs.Steps.{in_order, project_cmp, steps_of}
 use Rattle.nm_statement.specs.Set.{has}
 use Rattle.nm_statement.specs.declared.statement.Statement.{Statement}
 use Rattle.nm_timeline.specs.declared.part.Part.{Part}
 use Rattle.nm_timeline.specs.declared.part.Part.TheVariants as part
-use Rattle.nm_version.proofs.Breaks.{first_break_at, first_cause}
+use Rattle.nm_version.proofs.Breaks.{cause_or, first_break_at, first_cause}
 use Rattle.nm_version.specs.Lesser.{FirstBreakIsTheLesser, cause_by, cause_of, lesser_cause, refusal_by}
-use Rattle.nm_version.specs.Missing.{cause_or}
 use Rattle.nm_check.specs.Replay.{set_after}
 use Rattle.nm_version.specs.Replay.{breaks, causes, first_break, known_before, refusal_at, statement_causes}
 use Rattle.nm_version.specs.declared.refusal.Cause.{Cause}
@@ -177,6 +176,13 @@ find_own (x ∷ xs) rising = (
     behind [] a h = tt
     behind (y ∷ ys) a h = (ap (λ b. cond b (Some x) (by_filing xs y.filing)) (other_number x.filing y.filing a.0) ∙ h.0, behind ys a.1 h.1)
 
+-- each of the live projects in order
+pub find_ordered : (live : List PlainProject) → IsLive live → AllByRecursion (λ p. by_filing live p.filing ≡ Some p) (in_order live)
+find_ordered live l =
+    recursion_from_All (λ p. by_filing live p.filing ≡ Some p) (in_order live)
+    (All-permutation (λ p. by_filing live p.filing ≡ Some p) live (in_order live) (live_projects_stand_in_order live l).all
+    (All-from_recursion (λ p. by_filing live p.filing ≡ Some p) live (find_own live l.rising)))
+
 pub first_break_is_the_lesser : FirstBreakIsTheLesser
 unfolding first_break
 first_break_is_the_lesser base live l =
@@ -189,16 +195,10 @@ first_break_is_the_lesser base live l =
     order : InOrder live
     order = live_projects_stand_in_order live l
 
-    found : AllByRecursion (λ p. by_filing live p.filing ≡ Some p) (in_order live)
-    found =
-        recursion_from_All (λ p. by_filing live p.filing ≡ Some p) (in_order live)
-        (All-permutation (λ p. by_filing live p.filing ≡ Some p) live (in_order live) order.all
-        (All-from_recursion (λ p. by_filing live p.filing ≡ Some p) live (find_own live l.rising)))
-
     told_all : AllByRecursion (Tells tell) (in_order live)
     told_all =
         all_weaker (λ p. by_filing live p.filing ≡ Some p) (Tells tell)
-        (λ p e cause. ap (option_map (λ project. refusal.Step p.day (model_of project) cause)) e) (in_order live) found
+        (λ p e cause. ap (option_map (λ project. refusal.Step p.day (model_of project) cause)) e) (in_order live) (find_ordered live l)
 
     same : (at : Option (Key × Cause)) → told tell at ≡ refusal_by live at
     same None = refl

@@ -3,8 +3,6 @@ pub mod Commits
 pub mod Logs
 pub mod Filings
 pub mod Lists
-pub mod Subjects
-pub mod Lines
 pub mod Unnumbered
 mod Examples
 mod ExamplesOfTimelines
@@ -17,3 +15,5 @@ pub mod Determined
 pub mod Lesser
 pub mod Fitting
 pub mod Edited
+pub mod ByTimelines
+pub mod Crossing

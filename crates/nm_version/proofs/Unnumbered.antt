@@ -16,7 +16,7 @@ use Rattle.nm_statement.specs.declared.statement.Statement.{Statement}
 use Rattle.nm_version.proofs.Lists.{filter-map}
 use Rattle.nm_version.specs.Assembly.{assembly_header}
 use Rattle.nm_version.specs.Laws.{FilingNumbersStayInside, unnumbered}
-use Rattle.nm_version.specs.Objects.{is_about}
+use Rattle.nm_check.specs.Subject.{is_about}
 use Rattle.nm_version.specs.Projects.{row_of}
 use Rattle.nm_check.specs.Replay.{after_changes}
 use Rattle.nm_version.specs.Replay.{in_service, is_in_service}

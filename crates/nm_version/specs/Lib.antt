@@ -17,7 +17,8 @@ pub mod Laws
 pub mod Withdrawal
 pub mod Lesser
 pub mod Edits
+pub mod Timelines
 -- What the proofs of the code say
+pub mod ByTimelines
 pub mod Log
-pub mod Missing
 pub mod Within

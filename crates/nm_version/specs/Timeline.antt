@@ -1,16 +1,16 @@
 -- What the base and the steps say of the statements of one subject.
-use Rattle.std.specs.Prelude.{◌≡◌, List, [], ◌∷◌, ◌++◌, Bool, if◌then◌else◌}
+use Rattle.std.specs.Prelude.{List, [], ◌∷◌, ◌++◌, Bool, if◌then◌else◌}
 use Rattle.std.specs.List.{filter, flat_map}
+use Rattle.nm_check.specs.Subject.{is_about}
 use Rattle.nm_check.specs.Timelines.{names_of}
 use Rattle.nm_ident.specs.declared.ident.Ident.{Ident}
 use Rattle.nm_model.specs.declared.document.Full.{Full}
 use Rattle.nm_stage.specs.Project.{PlainProject, model_of}
 use Rattle.nm_stage.specs.Steps.{in_order}
-use Rattle.nm_statement.specs.Set.{has, is_same, set_of}
+use Rattle.nm_statement.specs.Set.{has, set_of}
 use Rattle.nm_statement.specs.declared.statement.Statement.{Statement}
 use Rattle.nm_timeline.specs.declared.part.Part.{Part}
 use Rattle.nm_timeline.specs.declared.part.Part.TheVariants.{Precondition, Reverse, Forward}
-use Rattle.nm_version.specs.Objects.{is_about}
 use Rattle.nm_version.specs.declared.line.Line.{Line}
 use Rattle.nm_version.specs.declared.line.Line.TheVariants.{Base, Named}
 
@@ -18,9 +18,12 @@ use Rattle.nm_version.specs.declared.line.Line.TheVariants.{Base, Named}
 abbrev pub named_by : List Statement → List PlainProject → List Statement
 named_by base steps = set_of (base ++ flat_map (λ step. names_of step.change) steps)
 
+abbrev pub line_if : Bool → Line → List Line
+line_if test line = if test then line ∷ [] else []
+
 -- a line, where the set has the statement
 abbrev pub line_where : List Statement → Statement → Line → List Line
-line_where set statement line = if has set statement then line ∷ [] else []
+line_where set statement line = line_if (has set statement) line
 
 -- a step names the statement in a part of its change
 abbrev pub named_in : PlainProject → Part → Statement → Line
@@ -45,20 +48,6 @@ lines_from base steps subject = flat_map (statement_lines base steps) (filter (i
 abbrev pub timeline_of : Full → List PlainProject → Ident → List Line
 timeline_of base live subject = lines_from base.statements (in_order live) subject
 
--- ---- the lines, whatever the order of their statements
-
 abbrev pub statement_of : Line → Statement
 statement_of (Base statement) = statement
 statement_of (Named day model part statement) = statement
-
-abbrev pub is_line_of : Statement → Line → Bool
-is_line_of statement line = is_same (statement_of line) statement
-
--- what the lines say of a statement
-abbrev pub lines_of : Statement → List Line → List Line
-lines_of statement lines = filter (is_line_of statement) lines
-
--- behind the lines that there were, the new ones say this of each statement of the subject, and nothing of any other
-abbrev pub Says : Ident → (Statement → List Line) → List Line → List Line → Type 0
-Says subject said before after = (statement : Statement)
-    → lines_of statement after ≡ lines_of statement before ++ (if is_about subject statement then said statement else [])

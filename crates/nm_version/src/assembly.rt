@@ -2,21 +2,19 @@
 ghost use Rattle.nm_day.specs.Day.{day_cmp};
 ghost use Rattle.nm_stage.specs.Project.{step_of};
 ghost use Rattle.nm_version.specs.Assembly as spec;
-ghost use Rattle.nm_check.specs.Replay.{after_changes};
 ghost use Rattle.nm_version.specs.Replay as replay;
 ghost use Rattle.nm_model.specs.Header.{rising_ids};
 ghost use Rattle.std.specs.List.{filter};
 ghost use Rattle.std.specs.Ordering.{is_le};
-ghost use Rattle.std.specs.Prelude.{◌≡◌, ◌∷◌, ◌++◌, IfOk, OnOk, codes, map};
+ghost use Rattle.std.specs.Prelude.{◌≡◌, ◌∷◌, ◌++◌, IfOk, OnOk, codes, length, map};
 
-use crate::replay::set_after;
 use crate::version::Version;
 use nm_base::NoMemory;
 use nm_day::Day;
 use nm_ident::{Ids, id_text};
 use nm_model::{Full, Header};
 use nm_stage::Step;
-use nm_statement::{Literal, Set};
+use nm_statement::Literal;
 use std::alloc::Global;
 use uuid::Uuid;
 
@@ -32,9 +30,16 @@ impl Version {
     {
         let steps = self.in_service(alloc, day)?;
         Ok(Full {
-            header: header_of(alloc, &self.base().header, &steps, day)?,
-            statements: statements_after(alloc, &self.base().statements, &steps)?,
+            header: header_of(alloc, self.header(), &steps, day)?,
+            statements: self.timelines().at(alloc, day)?,
         })
+    }
+
+    /// How many statements the model of a day has.
+    pub fn count(&self, alloc: Global, day: Day) -> Result<usize, NoMemory>
+        ensures { IfOk result (λ count. count ≡ length (replay.statements_at self.now.base self.now.live day)) }
+    {
+        self.timelines().count(alloc, day)
     }
 
     /// The steps whose day is at most this one, in order.
@@ -58,17 +63,6 @@ fn is_up_to(step: &Step, day: Day) -> bool
     ensures { result ≡ is_le (day_cmp step.now.key.day day) }
 {
     step.key.day <= day
-}
-
-/// The statements after the steps.
-fn statements_after(alloc: Global, base: &Set, steps: &[Step]) -> Result<Set, NoMemory>
-    ensures { IfOk result (λ set. set ≡ after_changes base.now (map (λ step. step.change) steps.now)) }
-{
-    let mut set = base.copy(alloc)?;
-    for step in steps {
-        set = set_after(alloc, &set, &step.change)?;
-    }
-    Ok(set)
 }
 
 /// The header of an assembled model.

@@ -5,9 +5,9 @@
 //! are in service by then, in the order of day and filing.
 #![tactic(auto)]
 
-mod about;
 mod assembly;
 mod command;
+mod dependencies;
 mod edits;
 mod laws;
 mod limits;
@@ -16,9 +16,9 @@ mod listing;
 mod log;
 mod object;
 mod refusal;
-mod replay;
 mod row;
 mod rules;
+mod step_refusal;
 mod threads;
 mod timeline;
 mod version;

@@ -76,7 +76,7 @@ impl Version {
     fn is_in_use(&self, id: u128) -> bool
         ensures { result ≡ spec.is_in_use self.now id }
     {
-        self.base().header.id == id || self.live_projects().holds(id)
+        self.header().id == id || self.live_projects().holds(id)
     }
 
     fn steps_refusal(&self, command: &Command) -> Option<Refusal>

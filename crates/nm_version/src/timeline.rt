@@ -1,119 +1,109 @@
 // What the base and the projects say of one subject.
-ghost use Rattle.nm_statement.specs.Order.{statement_cmp};
-ghost use Rattle.nm_version.specs.Timeline as spec;
-ghost use Rattle.nm_version.specs.declared.line.Line.TheVariants as line;
-ghost use Rattle.std.specs.Prelude.{◌≡◌, [], IfOk, OnOk, map};
+ghost use Rattle.nm_tree.specs.Span.{values_of};
+ghost use Rattle.nm_version.specs.ByTimelines as spec;
+ghost use Rattle.nm_version.specs.Timeline.{timeline_of};
+ghost use Rattle.nm_version.specs.declared.line.Line as declared;
+ghost use Rattle.nm_version.specs.declared.line.Line.TheVariants as told;
+ghost use Rattle.std.specs.List.{flat_map};
+ghost use Rattle.std.specs.Prelude.{◌≡◌, ◌++◌, ◌∷◌, [], IfOk, OnOk};
 
-use crate::about::about;
 use crate::line::Line;
+use crate::step_refusal::model_filed;
 use crate::version::Version;
 use nm_base::NoMemory;
+use nm_day::Key;
 use nm_ident::Ident;
-use nm_stage::Project;
-use nm_statement::{Set, statements_are_ordered};
-use nm_timeline::Part;
+use nm_stage::Live;
+use nm_statement::Statement;
+use nm_timeline::{Mark, Part, Timeline};
 use std::alloc::Global;
-use std::cmp::Ordering;
 
 impl Version {
     /// Each statement of the subject that the base or a live project names, with where it is named:
     /// the line of the base, and then a line for each part of each project, in the order of the
     /// steps. The statements stand in their order.
-    ///
-    /// The statements of the subject are found by a search in the base and in each change. The sort
-    /// is stable, so that the lines of one statement keep the order of the steps.
     pub fn timeline(&self, alloc: Global, ident: &Ident) -> Result<Vec<Line>, NoMemory>
-        ensures { IfOk result (λ lines. lines.items ≡ spec.timeline_of self.now.base self.now.live ident.now) }
+        ensures { IfOk result (λ lines. lines.items ≡ timeline_of self.now.base self.now.live ident.now) }
     {
-        let projects = self.live_projects().in_order(alloc)?;
-        let mut lines = lines_by_step(alloc, &self.base().statements, &projects, ident)?;
-        lines.sort_by(|x, y| compare(x, y))?;
-        Ok(lines)
+        let subject = self.timelines().of_subject(alloc, ident)?;
+        lines_of(alloc, self.live_projects(), subject.as_slice())
     }
 }
 
-/// The lines of the base, and behind them those of each project.
-fn lines_by_step(
+/// The lines of these statements, by their timelines.
+fn lines_of(
     alloc: Global,
-    base: &Set,
-    projects: &[&Project],
-    subject: &Ident,
+    live: &Live,
+    timelines: &[&(Statement, Timeline)],
 ) -> Result<Vec<Line>, NoMemory>
-    ensures { IfOk result (λ lines. spec.Says subject.now (spec.statement_lines base.now (map (λ one. one.now) projects.now)) [] lines.items) }
+    ensures { IfOk result (λ lines. lines.items ≡ flat_map (spec.lines_told live.now) (values_of timelines.now)) }
 {
     let mut lines = Vec::new(alloc);
-    append_base(alloc, &mut lines, base, subject)?;
-    for project in projects {
-        append_step(alloc, &mut lines, project, subject)?;
+    for pair in timelines {
+        append_statement(alloc, &mut lines, live, &pair.0, &pair.1)?;
     }
     Ok(lines)
 }
 
-/// Appends a line for each statement of the base with this subject.
-fn append_base(
+/// Appends the lines of a statement.
+fn append_statement(
     alloc: Global,
     lines: &mut Vec<Line>,
-    base: &Set,
-    subject: &Ident,
+    live: &Live,
+    statement: &Statement,
+    timeline: &Timeline,
 ) -> Result<(), NoMemory>
-    ensures { OnOk result (spec.Says subject.now (λ s. spec.line_where base.now s (line.Base s)) lines.old.items lines.new.items) }
+    ensures { OnOk result (lines.new.items ≡ lines.old.items ++ spec.lines_told live.now (statement.now, timeline.now)) }
 {
-    for statement in about(base, subject) {
+    if timeline.base() {
         lines.push(Line::Base {
             statement: statement.copy(alloc)?,
         })?;
     }
-    Ok(())
+    append_entries(alloc, lines, live, statement, timeline.entries())
 }
 
-/// Appends a line for each statement of the subject in each part of the project's change.
-fn append_step(
+/// Appends the lines of the steps that name a statement.
+fn append_entries(
     alloc: Global,
     lines: &mut Vec<Line>,
-    project: &Project,
-    subject: &Ident,
+    live: &Live,
+    statement: &Statement,
+    entries: &[(Key, Mark)],
 ) -> Result<(), NoMemory>
-    ensures { OnOk result (spec.Says subject.now (λ s. spec.step_lines s project.now) lines.old.items lines.new.items) }
+    ensures { OnOk result (lines.new.items ≡ lines.old.items ++ flat_map (spec.entry_lines live.now statement.now) entries.now) }
 {
-    let change = &project.change;
-    append_part(
-        alloc,
-        lines,
-        project,
-        Part::Precondition,
-        &change.pre,
-        subject,
-    )?;
-    append_part(alloc, lines, project, Part::Reverse, &change.rev, subject)?;
-    append_part(alloc, lines, project, Part::Forward, &change.fwd, subject)
-}
-
-/// Appends a line for each statement of the subject in this part of the project's change.
-fn append_part(
-    alloc: Global,
-    lines: &mut Vec<Line>,
-    project: &Project,
-    part: Part,
-    statements: &Set,
-    subject: &Ident,
-) -> Result<(), NoMemory>
-    ensures { OnOk result (spec.Says subject.now (λ s. spec.line_where statements.now s (spec.named_in project.now part s)) lines.old.items lines.new.items) }
-{
-    for statement in about(statements, subject) {
-        lines.push(Line::Named {
-            day: project.day,
-            model: project.model(),
-            part,
-            statement: statement.copy(alloc)?,
-        })?;
+    for (key, mark) in entries {
+        let model = model_filed(live, key.filing);
+        if mark.pre {
+            append_named(alloc, lines, key, model, Part::Precondition, statement)?;
+        }
+        if mark.rev {
+            append_named(alloc, lines, key, model, Part::Reverse, statement)?;
+        }
+        if mark.fwd {
+            append_named(alloc, lines, key, model, Part::Forward, statement)?;
+        }
     }
     Ok(())
 }
 
-/// Which of the two lines has the lesser statement.
-fn compare(x: &Line, y: &Line) -> Ordering
-    ensures { result ≡ statement_cmp (spec.statement_of x.now) (spec.statement_of y.now) }
+/// Appends the line of a part of a step that names a statement.
+fn append_named(
+    alloc: Global,
+    lines: &mut Vec<Line>,
+    key: &Key,
+    model: u128,
+    part: Part,
+    statement: &Statement,
+) -> Result<(), NoMemory>
+    ensures { OnOk result (lines.new.items ≡ lines.old.items ++ told.Named key.now.day model part statement.now ∷ []) }
 {
-    statements_are_ordered();
-    x.statement().cmp(y.statement())
+    lines.push(Line::Named {
+        day: key.day,
+        model,
+        part,
+        statement: statement.copy(alloc)?,
+    })?;
+    Ok(())
 }

@@ -2,28 +2,40 @@
 ghost use Rattle.nm_model.specs.declared.document.Document.TheVariants as document;
 ghost use Rattle.nm_reader.specs.Input.{IsDocumentOf};
 ghost use Rattle.nm_stage.specs.Live.{IsLive};
+ghost use Rattle.nm_check.specs.Kept.{AreTimelinesOf};
+ghost use Rattle.nm_check.specs.Timelines.{base_of, timelines_of};
+ghost use Rattle.nm_stage.specs.Steps.{steps_of};
 ghost use Rattle.nm_terms.specs.Due.{IsDue};
 ghost use Rattle.nm_version.specs.After as after;
+ghost use Rattle.nm_version.specs.ByTimelines.{timelines_due};
 ghost use Rattle.nm_version.specs.Command.{IsSpelt};
+ghost use Rattle.nm_version.specs.Edits.{IsEdit};
 ghost use Rattle.nm_version.specs.Kept as kept;
 ghost use Rattle.nm_version.specs.Limits.{largest_store, most_commits};
 ghost use Rattle.nm_version.specs.Projects.{rows_of};
 ghost use Rattle.nm_version.specs.Refusal as refused;
-ghost use Rattle.std.specs.Prelude.{◌≡◌, ◌≤◌, IfOk, None, length};
+ghost use Rattle.nm_version.specs.Within.{IsWithin};
+ghost use Rattle.nm_version.specs.Timelines.{most_steps_of, steps_of_edit, timelines_over};
+ghost use Rattle.std.specs.Prelude.{◌≡◌, ◌+◌, ◌≤◌, ◌<◌, [], IfOk, None, length};
 
-use crate::command::Command;
+use crate::command::{Command, Entry};
+use crate::dependencies::first_missing;
+use crate::edits::Changed;
+use crate::laws::commands_edit_steps;
 use crate::log::Log;
-use crate::refusal::Refusal;
-use crate::replay::first_break;
+use crate::refusal::{Cause, Refusal};
 use crate::row::{Row, rows};
+use crate::step_refusal::{refusal_of, refusal_of_lesser};
 use nm_base::{NoMemory, Steps};
+use nm_check::{EditError, Timelines, base_is_of_timelines};
 use nm_ident::Text;
-use nm_model::Full;
-use nm_stage::Live;
+use nm_model::{Full, Header};
+use nm_stage::{Live, Step};
+use nm_statement::Set;
 use std::alloc::Global;
-use std::marker::Model;
+use std::marker::{Brand, Model};
 use std::sync::Arc;
-use std::sync::ledger::Ledger;
+use std::sync::ledger::{Blank, Ledger};
 
 /// A base with the projects that are filed to it: one version of a store. A contract sees what is
 /// kept: the base, its bytes, the live projects, and the log.
@@ -32,9 +44,11 @@ use std::sync::ledger::Ledger;
 /// changes of the projects, and the documents of the log.
 #[derive(Drop)]
 pub struct Version {
-    base: Arc<Full>,
+    header: Arc<Header>,
     bytes: Arc<Text>,
     live: Live,
+    /// The statements of the base stand among them, so that no statement is kept twice.
+    timelines: Timelines,
     log: Log,
     size: u64,
 }
@@ -46,9 +60,9 @@ impl Model for Version {
 
     ghost use Rattle.nm_version.specs.Within.{IsWithin, kept_of};
 
-    ghost view = { λ version. kept_of version.base version.bytes version.live version.log };
+    ghost view = { λ version. kept_of version.header version.bytes version.live version.timelines version.log };
 
-    ghost invariant = { λ version. IsWithin (kept_of version.base version.bytes version.live version.log) version.size };
+    ghost invariant = { λ version. IsWithin (kept_of version.header version.bytes version.live version.timelines version.log) version.timelines version.size };
 }
 
 impl Version {
@@ -60,10 +74,14 @@ impl Version {
         ensures { IfOk result (λ version. version ≡ kept.opened base bytes.items) }
     {
         let size = bytes.len() as u64;
+        let Full { header, statements } = base;
+        let timelines = timelines_of_base::<Brand>(alloc, statements, Blank::new(1))?;
+        timelines.base_is_in_order();
         Ok(Version {
-            base: Arc::new(alloc, base)?,
+            header: Arc::new(alloc, header)?,
             bytes: Arc::new(alloc, Text::of_list(bytes))?,
             live: Live::empty(alloc),
+            timelines,
             log: Log::empty(alloc),
             size,
         })
@@ -107,20 +125,14 @@ impl Version {
         &self,
         alloc: Global,
         command: Command,
-        _steps: &mut Steps<L>,
+        steps: &mut Steps<L>,
     ) -> Result<Version, Refusal>
         requires { IsSpelt command }
-        ensures { IsDue refused.wants_memory result (after.commit_of self.now command) }
-    {
-        self.commit_by_replay(alloc, command)
-    }
-
-    fn commit_by_replay(&self, alloc: Global, command: Command) -> Result<Version, Refusal>
-        requires { IsSpelt command }
-        ensures { IsDue refused.wants_memory result (after.commit_of self.now command) }
+        ensures commit { IsDue refused.wants_memory result (after.commit_of self.now command) }
+        ensures steps { steps.new ≤ steps.old + most_steps_of self.now command }
     {
         match self.early_refusal(&command) {
-            None => self.commit_unless_broken(alloc, command),
+            None => self.commit_unless_broken(alloc, command, steps),
             Some(refusal) => {
                 // At once, so that no other path has to drop what the command holds.
                 drop(command);
@@ -129,32 +141,90 @@ impl Version {
         }
     }
 
-    /// The version after a command that no rule before the replay refuses.
-    fn commit_unless_broken(&self, alloc: Global, command: Command) -> Result<Version, Refusal>
+    /// The version after a command that no rule before the breaks refuses.
+    fn commit_unless_broken<L: Ledger>(
+        &self,
+        alloc: Global,
+        command: Command,
+        steps: &mut Steps<L>,
+    ) -> Result<Version, Refusal>
         requires spelt { IsSpelt command }
         requires early { refused.early_refusal self.now command ≡ None }
-        ensures { IsDue refused.wants_memory result (after.commit_of self.now command) }
+        ensures commit { IsDue refused.wants_memory result (after.commit_of self.now command) }
+        ensures steps { steps.new ≤ steps.old + most_steps_of self.now command }
     {
         command.has_line();
+        commands_edit_steps();
         let size = self.size + command.document_size();
-        let (live, entry) = self.changed(alloc, command)?;
-        if let Some(refusal) = first_break(alloc, &self.base, &live)? {
-            return Err(refusal);
-        }
+        let taken = self.steps_taken(alloc, &command)?;
+        let Changed { live, added, entry } = self.changed(alloc, command)?;
+        let timelines = self.timelines_after(alloc, &taken, &added, &live, steps)?;
+        let version = self.with_entry(alloc, live, timelines, entry, size)?;
+        Ok(version)
+    }
+
+    /// The version with these live projects and their timelines, and with one command more in the
+    /// log.
+    fn with_entry(
+        &self,
+        alloc: Global,
+        live: Live,
+        timelines: Timelines,
+        entry: Entry,
+        size: u64,
+    ) -> Result<Version, NoMemory>
+        requires { IsWithin (kept.with_entry self.now live entry) timelines size }
+        ensures { IfOk result (λ version. version ≡ kept.with_entry self.now live entry) }
+    {
+        base_is_of_timelines();
         Ok(Version {
-            base: Arc::try_clone(&self.base)?,
+            header: Arc::try_clone(&self.header)?,
             bytes: Arc::try_clone(&self.bytes)?,
             live,
+            timelines,
             log: self.log.with(alloc, entry)?,
             size,
         })
     }
 
-    /// The base.
-    pub(crate) fn base(&self) -> &Full
-        ensures { result.now ≡ self.now.base }
+    /// The timelines after an edit of steps that leaves these live projects, or why one of their
+    /// steps does not fit.
+    fn timelines_after<L: Ledger>(
+        &self,
+        alloc: Global,
+        taken: &[Step],
+        added: &[Step],
+        live: &Live,
+        steps: &mut Steps<L>,
+    ) -> Result<Timelines, Refusal>
+        requires { IsEdit taken.now added.now (steps_of self.now.live) (steps_of live.now) }
+        ensures timelines { IsDue refused.wants_memory result (timelines_due self.now.base live.now) }
+        ensures steps { steps.new ≤ steps.old + steps_of_edit (length (timelines_over self.now.base self.now.live)) taken.now added.now }
     {
-        &self.base
+        let _projects = live.as_slice();
+        let missing = first_missing(alloc, self.header(), live)?;
+        match self.timelines().edit(alloc, taken, added, steps) {
+            Ok(timelines) => match missing {
+                Some((key, id)) => Err(refusal_of(live, key, Cause::Dependency(id))),
+                None => Ok(timelines),
+            },
+            Err(EditError::Break(found)) => Err(refusal_of_lesser(live, missing, found)),
+            Err(EditError::NoMemory) => Err(Refusal::NoMemory),
+        }
+    }
+
+    /// The timelines of the statements that the base or the live projects name.
+    pub(crate) fn timelines(&self) -> &Timelines
+        ensures { AreTimelinesOf self.now.base.statements (steps_of self.now.live) result.now }
+    {
+        &self.timelines
+    }
+
+    /// The header of the base.
+    pub(crate) fn header(&self) -> &Header
+        ensures { result.now ≡ self.now.base.header }
+    {
+        &self.header
     }
 
     /// The bytes of the base's document.
@@ -187,4 +257,22 @@ impl Version {
     {
         self.size
     }
+}
+
+/// The timelines of a base to which nothing was filed.
+fn timelines_of_base<L: Ledger>(
+    alloc: Global,
+    base: Set,
+    blank: Blank,
+) -> Result<Timelines, NoMemory>
+    requires name { blank.name ≡ L.name }
+    requires parts { blank.parts ≡ L.parts }
+    requires some { 0 < blank.parts }
+    ensures timelines { IfOk result (λ timelines. timelines ≡ timelines_of base []) }
+    ensures base { IfOk result (λ timelines. base_of timelines ≡ base) }
+{
+    base_is_of_timelines();
+    let mut steps = Steps::<L>::start(blank);
+    let _statements = base.as_slice();
+    Timelines::taking_base(alloc, base, &mut steps)
 }

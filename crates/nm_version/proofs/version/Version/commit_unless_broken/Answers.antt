@@ -1,41 +1,71 @@
-use Rattle.std.proofs.Common.{◌≡◌, ◌∙◌, ◌+◌, ◌++◌, ◌∷◌, [], Ok, sym, ap, subst, rules}
-use Rattle.std.specs.Arc.{arc_value}
-use Rattle.nm_stage.specs.Project.{behind}
+use Rattle.std.proofs.Common.{◌≡◌, ◌∙◌, ◌≤◌, ◌+◌, ℕ, List, None, Result, Err, Ok, length, sym, ap, subst}
+use Rattle.std.proofs.lemmas.Result.{err_from_is_err_and}
+use Rattle.nm_stage.specs.Project.{PlainProject}
+use Rattle.nm_statement.specs.declared.statement.Statement.{Statement}
+use Rattle.nm_terms.specs.Due.{IsDue, OrWant}
+use Rattle.nm_timeline.specs.Timeline.{PlainTimeline}
 use Rattle.nm_version.specs.After.{accepted, commit_of}
-use Rattle.nm_version.specs.Kept.{Kept}
+use Rattle.nm_version.specs.ByTimelines.{timelines_due}
+use Rattle.nm_version.specs.Changed.{live_after}
+use Rattle.nm_version.specs.Command.{document_size, entry_of}
+use Rattle.nm_version.specs.Kept.{Kept, with_entry}
+use Rattle.nm_version.specs.Refusal as refusal
+use Rattle.nm_version.specs.Refusal.{wants_memory}
 use Rattle.nm_version.specs.Replay.{first_break}
-use Rattle.nm_version.specs.Within.{IsWithin, kept_of}
-use Rattle.nm_version.proofs.Commits.{accepts, kept_after, refused_late, within_after}
+use Rattle.nm_version.specs.declared.command.Command.{Command}
+use Rattle.nm_version.specs.Timelines.{steps_of_edit, timelines_over}
+use Rattle.nm_version.specs.Within.{IsWithin}
+use Rattle.nm_version.specs.declared.refusal.Refusal.{Refusal}
+use Rattle.nm_version.proofs.ByTimelines.{refused_err, unrefused_ok, want_join}
+use Rattle.nm_version.proofs.Commits.{accepts, refused_late, within_after}
 use Rattle.nm_version.proofs.version.Version.commit_unless_broken.Goals as goal
 
-pub returns-in-Some : goal.returns-in-Some
-returns-in-Some c =
-    let base = c.deref.ensures ∙ ap (λ (k : Kept). k.base) c.self.view_is in
-    refused_late c.args.self.now c.args.command c.in-Some.refusal (sym c.requires.early)
-    (sym c.in-Some.is ∙ c.in_ok-refusal.ensures ∙ (λ i. first_break (base i) (c.in_ok-live.ensures.0 i)))
+late : (kept : Kept) (command : Command) (refused : Refusal) → refusal.early_refusal kept command ≡ None → OrWant (wants_memory refused) (timelines_due kept.base (live_after kept command) ≡ Err refused)
+    → OrWant (wants_memory refused) (commit_of kept command ≡ Err refused)
+late kept command refused early due =
+    want_join (wants_memory refused) _ _ (λ h. refused_late kept command refused (sym early) (sym (refused_err _ _ refused h))) due
 
-made : (c : goal.In_ok-with) → kept_of c.in_ok-try_clone.field-0 c.in_ok-try_clone-2.field-0 (behind c.live.inside.projects.items) c.in_ok-with.field-0 ≡ accepted c.args.self.now c.args.command
-made c =
-    let base : arc_value c.in_ok-try_clone.field-0 ≡ arc_value c.self.inside.base = search rules in
-    let bytes : arc_value c.in_ok-try_clone-2.field-0 ≡ arc_value c.self.inside.bytes = search rules in
-    kept_after c.args.self.now c.args.command _ c.in_ok-live.entry
-    (base ∙ ap (λ (k : Kept). k.base) c.self.view_is)
-    (bytes ∙ ap (λ (k : Kept). k.bytes) c.self.view_is)
-    (c.live.view_is ∙ c.in_ok-live.ensures.0)
-    (c.in_ok-with.ensures ∙ ap (λ (k : Kept). k.log ++ c.in_ok-live.entry ∷ []) c.self.view_is)
-    c.in_ok-live.ensures.1
+pub returns-in_err-timelines-clause-commit : goal.returns-in_err-timelines-clause-commit
+returns-in_err-timelines-clause-commit g c =
+    let kept = c.args.self.now in
+    let refused = c.in_err-timelines.field-0.0 in
+    let passed = err_from_is_err_and c.from_residual-in_err-timelines.result c.from_residual-in_err-timelines.ensures.1 in
+    let due =
+    late kept c.args.command refused c.requires.early
+    (subst (λ (live : List PlainProject). OrWant (wants_memory refused) (timelines_due kept.base live ≡ Err refused)) c.in_ok-live.ensures.live_is c.in_err-timelines.ensures.timelines) in
+    subst (λ (r : Result Kept Refusal). IsDue wants_memory r (commit_of kept c.args.command)) (sym (passed.1 ∙ ap Err passed.2)) due
 
-accepts_it : (c : goal.In_ok-with) → commit_of c.args.self.now c.args.command ≡ Ok (accepted c.args.self.now c.args.command)
-accepts_it c =
-    let base = c.deref.ensures ∙ ap (λ (k : Kept). k.base) c.self.view_is in
-    accepts c.args.self.now c.args.command (sym c.requires.early)
-    (sym c.in_default.is ∙ c.in_ok-refusal.ensures ∙ (λ i. first_break (base i) (c.in_ok-live.ensures.0 i)))
+-- what a command that no statement stands against leads to
+module _ (kept : Kept) (command : Command) (live : List PlainProject) (timelines : List (Statement × PlainTimeline)) (early : refusal.early_refusal kept command ≡ None) (same : live ≡ live_after kept command)
+    (given : timelines_due kept.base live ≡ Ok timelines) where
+  given_after : (first_break kept.base (live_after kept command) ≡ None) × (timelines_over kept.base (live_after kept command) ≡ timelines)
+  given_after = unrefused_ok _ _ timelines (ap (timelines_due kept.base) (sym same) ∙ given)
 
-pub returns : goal.returns
-returns c = accepts_it c ∙ ap Ok (sym (made c))
+  commits : commit_of kept command ≡ Ok (accepted kept command)
+  commits = accepts kept command (sym early) (sym given_after.0)
 
-pub invariant_of-result-2 : goal.invariant_of-result-2
-invariant_of-result-2 c =
-    let within = subst (λ (k : Kept). IsWithin k c.self.inside.size) c.self.view_is c.self.invariant in
-    let after = within_after c.args.self.now c.args.command c.self.inside.size within c.requires.spelt c.has_line.ensures c.requires.early (accepts_it c) in
-    subst (λ (k : Kept). IsWithin k (c.self.inside.size + c.document_size.result)) (sym (made c)) (subst (λ n. IsWithin (accepted c.args.self.now c.args.command) (c.self.inside.size + n)) (sym c.document_size.ensures) after)
+pub with_entry-requires : goal.with_entry-requires
+with_entry-requires g c =
+    let kept = c.args.self.now in
+    let command = c.args.command in
+    let live = c.in_ok-live.field-0.live in
+    let within = subst (λ (k : Kept). IsWithin k c.self.inside.timelines c.self.inside.size) c.self.view_is c.self.invariant in
+    let after = within_after kept command c.self.inside.timelines c.in_ok-timelines.timelines c.self.inside.size within c.requires.spelt c.has_line.ensures c.requires.early
+    (commits kept command live c.in_ok-timelines.timelines c.requires.early c.in_ok-live.ensures.live_is c.in_ok-timelines.ensures.timelines)
+    (sym (given_after kept command live c.in_ok-timelines.timelines c.requires.early c.in_ok-live.ensures.live_is c.in_ok-timelines.ensures.timelines).1) in
+    subst (λ n. IsWithin (with_entry kept live c.in_ok-live.field-0.entry) c.in_ok-timelines.timelines (c.self.inside.size + n)) (sym c.document_size.ensures)
+    (subst (λ (k : Kept). IsWithin k c.in_ok-timelines.timelines (c.self.inside.size + document_size (entry_of command)))
+    (λ i. with_entry kept (sym c.in_ok-live.ensures.live_is i) (sym c.in_ok-live.ensures.entry_is i)) after)
+
+pub returns-clause-commit : goal.returns-clause-commit
+returns-clause-commit g c =
+    let kept = c.args.self.now in
+    commits kept c.args.command c.in_ok-live.field-0.live c.in_ok-timelines.timelines c.requires.early c.in_ok-live.ensures.live_is c.in_ok-timelines.ensures.timelines
+    ∙ ap Ok (sym (c.in_ok-version.ensures ∙ (λ i. with_entry kept (c.in_ok-live.ensures.live_is i) (c.in_ok-live.ensures.entry_is i))))
+
+pub returns-clause-steps : goal.returns-clause-steps
+returns-clause-steps g c =
+    let kept = c.args.self.now in
+    subst (λ (n : ℕ). c.timelines_after.new.steps ≤ c.args.steps.now + n)
+    (λ i. steps_of_edit (length (timelines_over kept.base kept.live)) ((c.deref.ensures.value ∙ c.in_ok-taken.ensures) i) ((c.deref-2.ensures.value ∙ c.in_ok-live.ensures.added_are) i))
+    c.timelines_after.ensures.steps
