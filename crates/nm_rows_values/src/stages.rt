@@ -1,7 +1,10 @@
 //! Live projects, their steps, and dependencies that are not met.
-use nm_day::Day;
+ghost use Rattle.nm_stage.specs.Live.{without_filing};
+ghost use Rattle.std.specs.Prelude.{◌≡◌, IfOk};
+
+use nm_day::{Day, Key};
 use nm_ident::{Ids, NoMemory};
-use nm_stage::{Live, Project};
+use nm_stage::{Live, Project, changes_leave_others};
 use nm_statement::{Change, Set};
 use std::alloc::Global;
 use std::sync::Arc;
@@ -29,7 +32,11 @@ fn with(
     day: &[u8],
     id: u128,
     dependencies: &[u128],
-) -> Result<Live, Fail> {
+) -> Result<Live, Fail>
+    ensures { IfOk result (λ made. without_filing filing made ≡ without_filing filing live.now) }
+{
+    changes_leave_others();
+    live.projects_are_live();
     let others = live.without(alloc, filing)?;
     if others.holds(id) {
         return Err("the id is in use".into());
@@ -58,16 +65,15 @@ fn live_of(alloc: Global, projects: &[Filed<'_>]) -> Result<Live, Fail> {
     Ok(live)
 }
 
-fn filings(alloc: Global, live: &Live) -> Result<Vec<u32>, NoMemory> {
-    let mut filings = Vec::new(alloc);
-    for project in live.as_slice() {
-        filings.push(project.filing)?;
-    }
-    Ok(filings)
+fn are_filed(live: &Live, filings: &[u32]) -> bool {
+    filings
+        .iter()
+        .all(|filing| live.filed_as(*filing).is_some())
 }
 
-fn has_filings(alloc: Global, live: &Live, due: &[u32]) -> Result<bool, NoMemory> {
-    Ok(filings(alloc, live)?.as_slice() == due)
+/// Whether the projects of these filing numbers are all that are live.
+fn has_filings(live: &Live, due: &[u32]) -> bool {
+    live.len() == due.len() && are_filed(live, due)
 }
 
 /// The models of the steps, in their order.
@@ -97,11 +103,11 @@ fn three_projects(alloc: Global) -> Result<Live, Fail> {
 
 fn do_three_projects_stand_in_order(alloc: Global) -> Result<bool, Fail> {
     let live = three_projects(alloc)?;
-    Ok(has_filings(alloc, &live, &[1, 2, 3])? && has_models(alloc, &live, &[20, 10, 30])?)
+    Ok(has_filings(&live, &[1, 2, 3]) && has_models(alloc, &live, &[20, 10, 30])?)
 }
 
 #[test]
-fn projects_stand_by_filing_number_and_steps_by_day(rt: HostRuntime) -> Result<(), Fail> {
+fn projects_are_found_by_filing_number_and_steps_stand_by_day(rt: HostRuntime) -> Result<(), Fail> {
     assert!(rt; do_three_projects_stand_in_order(rt.alloc())?);
     Ok(())
 }
@@ -122,7 +128,7 @@ fn is_dated(live: &Live, id: u128, day: &[u8]) -> bool {
 /// Whether the list without the first project has the second and the third.
 fn is_first_taken_out(alloc: Global, live: &Live) -> Result<bool, NoMemory> {
     let others = live.without(alloc, 1)?;
-    has_filings(alloc, &others, &[2, 3])
+    Ok(has_filings(&others, &[2, 3]))
 }
 
 fn is_second_redated_and_first_taken_out(alloc: Global) -> Result<bool, Fail> {
@@ -139,9 +145,13 @@ fn a_project_is_redated_and_taken_out(rt: HostRuntime) -> Result<(), Fail> {
 /// The filing number and the id of the first dependency that neither the model 5 nor an earlier step meets.
 fn missing(alloc: Global, live: &Live) -> Result<Option<(u32, u128)>, NoMemory> {
     let known = ids(alloc, &[5])?;
-    match live.missing(alloc, &known)? {
-        Some((key, id)) => Ok(Some((key.filing, id))),
-        None => Ok(None),
+    Ok(filing_and_id(live.missing(alloc, &known)?))
+}
+
+fn filing_and_id(missing: Option<(Key, u128)>) -> Option<(u32, u128)> {
+    match missing {
+        Some((key, id)) => Some((key.filing, id)),
+        None => None,
     }
 }
 
@@ -176,5 +186,53 @@ fn misses_a_later_step(alloc: Global) -> Result<bool, Fail> {
 fn a_dependency_is_met_by_what_is_known_and_by_earlier_steps(rt: HostRuntime) -> Result<(), Fail> {
     assert!(rt; misses_nothing(rt.alloc())?);
     assert!(rt; misses_a_later_step(rt.alloc())?);
+    Ok(())
+}
+
+/// What is missing once the project of this filing number is withdrawn from a list where nothing was.
+fn missing_without(
+    alloc: Global,
+    before: &Live,
+    filing: u32,
+) -> Result<Option<(u32, u128)>, NoMemory> {
+    let known = ids(alloc, &[5])?;
+    if before.missing(alloc, &known)?.is_some() {
+        return Ok(None);
+    }
+    changes_leave_others();
+    let after = before.without(alloc, filing)?;
+    Ok(filing_and_id(after.missing_since(&known, before, filing)))
+}
+
+fn misses_the_withdrawn(alloc: Global) -> Result<bool, Fail> {
+    let live = two_projects(alloc)?;
+    Ok(
+        missing_without(alloc, &live, 1)? == Some((3, 10))
+            && missing_without(alloc, &live, 3)?.is_none(),
+    )
+}
+
+/// What is missing once the first of the two projects comes into service on another day.
+fn missing_from_day(alloc: Global, day: &[u8]) -> Result<Option<(u32, u128)>, Fail> {
+    let known = ids(alloc, &[5])?;
+    let before = two_projects(alloc)?;
+    if before.missing(alloc, &known)?.is_some() {
+        return Ok(None);
+    }
+    let after = with(alloc, &before, 1, day, 10, &[5])?;
+    Ok(filing_and_id(after.missing_since(&known, &before, 1)))
+}
+
+fn misses_what_comes_later(alloc: Global) -> Result<bool, Fail> {
+    Ok(
+        missing_from_day(alloc, b"2027-06-01")?.is_none()
+            && missing_from_day(alloc, b"2027-06-02")? == Some((3, 10)),
+    )
+}
+
+#[test]
+fn a_change_leaves_unmet_what_the_old_project_met(rt: HostRuntime) -> Result<(), Fail> {
+    assert!(rt; misses_the_withdrawn(rt.alloc())?);
+    assert!(rt; misses_what_comes_later(rt.alloc())?);
     Ok(())
 }

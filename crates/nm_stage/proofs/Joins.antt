@@ -17,7 +17,7 @@ either_not : (a b : Bool) → (a || b) ≡ false → (a ≡ false) × (b ≡ fal
 either_not false b e = (refl, e)
 either_not true b e = cc
 
-neither : (a b : Bool) → a ≡ false → b ≡ false → (a || b) ≡ false
+pub neither : (a b : Bool) → a ≡ false → b ≡ false → (a || b) ≡ false
 neither a b e f = λ i. e i || f i
 
 not_in : (id : ℕ) (ids : List ℕ) → has_id ids id ≡ false → AllByRecursion (λ y. nat_eq id y ≡ false) ids
@@ -34,7 +34,7 @@ not_held id (x ∷ xs) e =
     let both = either_not (has_id x.lineage id) (holds xs id) e in
     all_append (λ y. nat_eq id y ≡ false) x.lineage (ids_of xs) (not_in id x.lineage both.0) (not_held id xs both.1)
 
-held_by_none : (id : ℕ) (live : List PlainProject) → AllByRecursion (λ y. nat_eq id y ≡ false) (ids_of live) → holds live id ≡ false
+pub held_by_none : (id : ℕ) (live : List PlainProject) → AllByRecursion (λ y. nat_eq id y ≡ false) (ids_of live) → holds live id ≡ false
 held_by_none id [] a = refl
 held_by_none id (x ∷ xs) a =
     neither (has_id x.lineage id) (holds xs id) (in_none id x.lineage (all_front (λ y. nat_eq id y ≡ false) x.lineage (ids_of xs) a))

@@ -5,4 +5,10 @@ pub mod Orders
 pub mod Missing
 pub mod Joins
 pub mod Changes
+pub mod Found
+pub mod Filings
+pub mod Beside
+pub mod FirstUnmet
+pub mod AfterChange
+pub mod Needs
 mod Examples

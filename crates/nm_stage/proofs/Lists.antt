@@ -1,10 +1,9 @@
 -- Lists of ids, and what lists of shared items are seen as.
-use Rattle.std.proofs.Common.{◌≡◌, ◌↔◌, ℕ, List, [], ◌∷◌, Bool, true, false, cond, IsTrue, Contains, Some, map, nat_eq, ◌||◌, refl, ap, arith}
+use Rattle.std.proofs.Common.{◌≡◌, ◌↔◌, ℕ, List, [], ◌∷◌, Bool, true, IsTrue, Contains, map, nat_eq, ◌||◌, refl, ap, arith}
 use Rattle.std.proofs.lemmas.Bool.Decides.{nat_tests}
 use Rattle.std.proofs.lemmas.Map.Views.{Contains-from_any, list_any-from_Contains}
 use Rattle.std.specs.Cmp.{IsEquivalence}
-use Rattle.std.specs.List.{find, list_any}
-use Rattle.std.specs.Option.{option_map}
+use Rattle.std.specs.List.{list_any}
 use Rattle.nm_ident.proofs.Rising.{same_answers}
 use Rattle.nm_stage.specs.Project.{has_id}
 
@@ -29,15 +28,6 @@ module _ {X Y : Type 0} (test : X → Bool) (view : Y → X) where
   pub list_any-map : (ys : List Y) → list_any (λ y. test (view y)) ys ≡ list_any test (map view ys)
   list_any-map [] = refl
   list_any-map (y ∷ ys) = ap (λ b. test (view y) || b) (list_any-map ys)
-
-  pub find-map : (ys : List Y) → option_map view (find (λ y. test (view y)) ys) ≡ find test (map view ys)
-  find-map [] = refl
-  find-map (y ∷ ys) = by (find-map ys) (test (view y))
-    where
-      by : option_map view (find (λ y. test (view y)) ys) ≡ find test (map view ys) → (b : Bool)
-          → option_map view (cond b (Some y) (find (λ y. test (view y)) ys)) ≡ cond b (Some (view y)) (find test (map view ys))
-      by h true = refl
-      by h false = h
 
 pub map-map : {X Y Z : Type 0} (f : Y → Z) (g : X → Y) (xs : List X) → map (λ x. f (g x)) xs ≡ map f (map g xs)
 map-map f g [] = refl

@@ -246,20 +246,3 @@ with-live project live l joins =
       apart = apart-moved project.lineage front back project refl
           (subst (λ others. AreApart (project.lineage ++ ids_of others)) (sym (without-split project.filing live l.rising)) joins.apart);
     })
-
--- the lists as the calls make them: what came before, then the project, and what came after
-module _ (filing : ℕ) (live start first : List PlainProject) (none : start ≡ []) (shared : first ≡ start ++ filter (before filing) live) (rising : IsStrictlySortedBy filing_cmp live) where
-  front : first ≡ filter (before filing) live
-  front = shared ∙ ap (λ l. l ++ filter (before filing) live) none
-
-  pub made_without : (second : List PlainProject) → second ≡ first ++ filter (after filing) live → second ≡ without_filing filing live
-  made_without second e = e ∙ ap (λ l. l ++ filter (after filing) live) front ∙ without-split filing live rising
-
-  pub made_with : (project : PlainProject) (pushed second : List PlainProject) → filing ≡ project.filing → pushed ≡ first ++ project ∷ [] → second ≡ pushed ++ filter (after filing) live → second ≡ with_project project live
-  made_with project pushed second same e f =
-      f
-      ∙ ap (λ l. l ++ filter (after filing) live) e
-      ∙ ap (λ l. (l ++ project ∷ []) ++ filter (after filing) live) front
-      ∙ append_assoc (filter (before filing) live) (project ∷ []) (filter (after filing) live)
-      ∙ ap (λ n. filter (before n) live ++ project ∷ filter (after n) live) same
-      ∙ with-split project live rising

@@ -20,6 +20,11 @@ pub record ListsStayLive : Type 0 where
   pub with : (project : PlainProject) (live : List PlainProject) → IsLive live → CanJoin project live → IsLive (with_project project live)
   pub without : (filing : ℕ) (live : List PlainProject) → IsLive live → IsLive (without_filing filing live)
 
+-- a change of one project leaves the others
+pub record ChangesLeaveOthers : Type 0 where
+  pub with : (project : PlainProject) (live : List PlainProject) → IsLive live → without_filing project.filing (with_project project live) ≡ without_filing project.filing live
+  pub without : (filing : ℕ) (live : List PlainProject) → without_filing filing (without_filing filing live) ≡ without_filing filing live
+
 -- a project can join where none of its ids stands in the lineage of another
 abbrev pub JoinsWithOwnIds : Type 0
 JoinsWithOwnIds = (project : PlainProject) (live : List PlainProject) → IsLive (without_filing project.filing live) → 0 < length project.lineage → AreApart project.lineage

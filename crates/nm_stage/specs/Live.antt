@@ -44,3 +44,11 @@ project_of id live = find (λ project. id_of project == id) live
 -- whether the id stands in a lineage
 abbrev pub holds : List PlainProject → ℕ → Bool
 holds live id = list_any (λ project. has_id project.lineage id) live
+
+-- the project with this filing number
+abbrev pub filed_as : ℕ → List PlainProject → Option PlainProject
+filed_as filing live = find (λ project. project.filing == filing) live
+
+-- the project in whose lineage the id stands
+abbrev pub holder_of : ℕ → List PlainProject → Option PlainProject
+holder_of id live = find (λ project. has_id project.lineage id) live

@@ -1,8 +1,5 @@
 -- Projects, and the steps that they are.
-use Rattle.std.specs.Prelude.{ℕ, ◌-◌, ◌==◌, List, Bool, length, map, slice_index}
-use Rattle.std.specs.Arc.{arc_value}
-use Rattle.std.specs.Global.{Global}
-use Rattle.std.specs.declared.sync.Arc.{Arc}
+use Rattle.std.specs.Prelude.{ℕ, ◌-◌, ◌==◌, List, Bool, length, slice_index}
 use Rattle.std.specs.List.{list_any}
 use Rattle.nm_day.specs.declared.key.Key.{Key}
 use Rattle.nm_statement.specs.declared.set.Change.{Change}
@@ -21,10 +18,6 @@ pub record PlainStep : Type 0 where
   pub model : ℕ
   pub dependencies : List ℕ
   pub change : Change
-
--- the projects behind shared pointers
-abbrev pub behind : List (Arc PlainProject Global) → List PlainProject
-behind shared = map arc_value shared
 
 -- the id of a project: the first of its lineage
 abbrev pub id_of : PlainProject → ℕ

@@ -13,6 +13,11 @@ pub fn lists_stay_live()
     ensures { law.ListsStayLive }
 {}
 
+/// A change of one project leaves the others as they are.
+pub fn changes_leave_others()
+    ensures { law.ChangesLeaveOthers }
+{}
+
 /// When a project can join a live list: with one id that no lineage has, with the lineage that it
 /// has there, with one new id more, or generally with ids that no other project has.
 pub fn projects_can_join()

@@ -5,13 +5,18 @@
 //! [`Step`], and a dependency of a step has to be met by an earlier one.
 #![tactic(auto)]
 
+mod additions;
 mod dependencies;
 mod laws;
+mod listed;
 mod live;
 mod order;
 mod project;
+mod since;
 mod threads;
 
-pub use laws::{lists_stay_live, live_projects_stand_in_order, projects_can_join};
+pub use laws::{
+    changes_leave_others, lists_stay_live, live_projects_stand_in_order, projects_can_join,
+};
 pub use live::Live;
 pub use project::{Project, Step};

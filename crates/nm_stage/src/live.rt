@@ -1,45 +1,54 @@
 // The list of the projects that are live.
 ghost use Rattle.nm_stage.specs.Dependencies.{missing_of};
+ghost use Rattle.nm_day.specs.Key.{key_cmp};
 ghost use Rattle.nm_stage.specs.Live as spec;
+ghost use Rattle.nm_stage.specs.Project.{has_id, key_of};
 ghost use Rattle.nm_stage.specs.Steps as ordered;
-ghost use Rattle.nm_stage.specs.Project.{PlainProject, behind, has_id, id_of};
-ghost use Rattle.std.specs.Arc.{arc_value};
-ghost use Rattle.std.specs.Global.{Global};
-ghost use Rattle.std.specs.declared.sync.Arc.{Arc};
+ghost use Rattle.nm_stage.specs.Unmet.{IsFirst};
 ghost use Rattle.std.specs.Option.{option_map};
-ghost use Rattle.std.specs.Ordering.{nat_cmp};
-ghost use Rattle.std.specs.Prelude.{◌≡◌, ◌==◌, ◌++◌, ◌∷◌, [], length, IfOk, OnOk, map, nat_lt};
-ghost use Rattle.std.specs.List.{filter, find, list_any};
+ghost use Rattle.std.specs.Ordering.{is_lt};
+ghost use Rattle.std.specs.Prelude.{◌≡◌, ◌&&◌, ◌==◌, [], length, not, IfOk, map, None};
 
+use crate::additions::{dependents_of, holders_of, lineage_of};
 use crate::dependencies::first_missing;
+use crate::listed::{Dependent, Filed, Holder};
 use crate::order::{in_order, steps_of};
 use crate::project::{Project, Step};
+use nm_blocks::Blocks;
 use nm_day::Key;
 use nm_ident::{Ids, NoMemory};
 use std::alloc::Global;
 use std::marker::Model;
-use std::sync::Arc;
 
 /// The projects that were filed and not withdrawn, in the order of filing. A contract sees the list
 /// of them.
 ///
 /// Filing numbers strictly rise, lineages are not empty, and no id stands twice over all lineages.
-/// Lists share their projects.
+///
+/// A change gives a new list, which shares its projects with the old one. The projects stand in
+/// shared blocks, and so do, beside them, the ids in use and the dependencies, each with its project:
+/// whether an id is in use, which project has it and what depends on it are binary searches, and a
+/// change copies the blocks that it touches and a pointer for each of the others.
 #[derive(Drop)]
 pub struct Live {
-    projects: Vec<Arc<Project>>,
+    projects: Blocks<Filed>,
+    /// The ids of all lineages, with the filing number of the project.
+    ids: Blocks<Holder>,
+    /// The dependencies of all projects, with the key of the project.
+    dependents: Blocks<Dependent>,
 }
 
 impl Model for Live {
     ghost use Rattle.std.specs.Prelude.{List};
-    ghost use Rattle.nm_stage.specs.Project.{PlainProject, behind};
+    ghost use Rattle.nm_stage.specs.Project.{PlainProject};
+    ghost use Rattle.nm_stage.specs.Listed.{AreListed};
     ghost use Rattle.nm_stage.specs.Live.{IsLive};
 
     ghost Value = { List PlainProject };
 
-    ghost view = { λ live. behind live.projects.items };
+    ghost view = { λ live. live.projects };
 
-    ghost invariant = { λ live. IsLive (behind live.projects.items) };
+    ghost invariant = { λ live. IsLive live.projects × AreListed live.ids live.dependents live.projects };
 }
 
 impl Live {
@@ -48,16 +57,10 @@ impl Live {
         ensures { result ≡ [] }
     {
         Live {
-            projects: Vec::new(alloc),
+            projects: Blocks::empty(alloc),
+            ids: Blocks::empty(alloc),
+            dependents: Blocks::empty(alloc),
         }
-    }
-
-    /// The projects, in the order of filing.
-    pub fn as_slice(&self) -> &[Arc<Project>]
-        ensures projects { behind result.now ≡ self.now }
-        ensures live { spec.IsLive self.now }
-    {
-        &self.projects
     }
 
     /// How many projects are live.
@@ -74,13 +77,54 @@ impl Live {
         self.projects.is_empty()
     }
 
+    /// The list is live. It takes no time: a call brings to a proof what the type keeps.
+    pub fn projects_are_live(&self)
+        ensures { spec.IsLive self.now }
+    {
+        let _projects = &self.projects;
+    }
+
+    /// The project with this filing number.
+    pub fn filed_as(&self, filing: u32) -> Option<&Project>
+        ensures { option_map (λ project. project.now) result ≡ spec.filed_as filing self.now }
+    {
+        let filed = self.projects.find(&filing)?;
+        Some(filed.project())
+    }
+
+    /// The project in whose lineage the id stands.
+    pub(crate) fn holder_of(&self, id: u128) -> Option<&Project>
+        ensures live { spec.IsLive self.now }
+        ensures found { option_map (λ project. project.now) result ≡ spec.holder_of id self.now }
+    {
+        let holder = self.ids.find(&id)?;
+        self.filed_as(holder.filing)
+    }
+
+    /// The key of the first project, from this one's key on, that has its dependency.
+    pub(crate) fn first_dependent(&self, from: &Dependent) -> Option<Key>
+        ensures { IsFirst self.now (λ project id. has_id project.dependencies id) (λ project id. has_id project.dependencies id && ((id == from.now.dependency) && not (is_lt (key_cmp (key_of project) from.now.key)))) (option_map (λ key. (key, from.now.dependency)) result) }
+    {
+        let _rising = self.dependents.as_blocks();
+        let first = self.dependents.first_from(from)?;
+        if first.dependency == from.dependency {
+            Some(first.key)
+        } else {
+            None
+        }
+    }
+
     /// The project with this id, which is the first of its lineage.
     pub fn find(&self, project: u128) -> Option<&Project>
         ensures found { option_map (λ found. found.now) result ≡ spec.project_of project self.now }
         ensures live { spec.IsLive self.now }
     {
-        let found = first_with_id(&self.projects, project)?;
-        Some(found)
+        let found = self.holder_of(project)?;
+        if found.id() == project {
+            Some(found)
+        } else {
+            None
+        }
     }
 
     /// Whether the id stands in a lineage.
@@ -88,14 +132,14 @@ impl Live {
         ensures held { result ≡ spec.holds self.now id }
         ensures live { spec.IsLive self.now }
     {
-        stands_in_a_lineage(&self.projects, id)
+        self.ids.find(&id).is_some()
     }
 
     /// The projects, in the order of their keys.
     pub fn in_order(&self, alloc: Global) -> Result<Vec<&Project>, NoMemory>
         ensures { IfOk result (λ projects. map (λ one. one.now) projects.items ≡ ordered.in_order self.now) }
     {
-        in_order(alloc, &self.projects)
+        in_order(alloc, self.projects.as_blocks())
     }
 
     /// The steps of the projects, in the order of their keys. They share their changes with the
@@ -103,7 +147,7 @@ impl Live {
     pub fn steps(&self, alloc: Global) -> Result<Vec<Step>, NoMemory>
         ensures { IfOk result (λ steps. steps.items ≡ ordered.steps_of self.now) }
     {
-        let projects = in_order(alloc, &self.projects)?;
+        let projects = self.in_order(alloc)?;
         steps_of(alloc, &projects)
     }
 
@@ -116,7 +160,7 @@ impl Live {
     pub fn missing(&self, alloc: Global, known: &Ids) -> Result<Option<(Key, u128)>, NoMemory>
         ensures { IfOk result (λ found. found ≡ missing_of known.now self.now) }
     {
-        let projects = in_order(alloc, &self.projects)?;
+        let projects = self.in_order(alloc)?;
         first_missing(alloc, known.as_slice(), &projects)
     }
 
@@ -125,71 +169,60 @@ impl Live {
         requires { spec.CanJoin project self.now }
         ensures { IfOk result (λ live. live ≡ spec.with_project project self.now) }
     {
-        let filing = project.filing;
-        let mut projects = Vec::with_capacity(alloc, self.projects.len() + 1)?;
-        append_filed_before(&mut projects, &self.projects, filing)?;
-        projects.push(Arc::new(alloc, project)?)?;
-        append_filed_after(&mut projects, &self.projects, filing)?;
-        Ok(Live { projects })
+        let _projects = &self.projects;
+        if self.filed_as(project.filing).is_none() {
+            return self.with_new(alloc, project);
+        }
+        let others = self.without(alloc, project.filing)?;
+        others.with_new(alloc, project)
+    }
+
+    /// The list with this project at its place.
+    fn with_new(&self, alloc: Global, project: Project) -> Result<Live, NoMemory>
+        requires joins { spec.CanJoin project self.now }
+        requires new { spec.filed_as project.filing self.now ≡ None }
+        ensures { IfOk result (λ live. live ≡ spec.with_project project self.now) }
+    {
+        let ids = self.ids.with_all(alloc, holders_of(alloc, &project)?)?;
+        let dependents = self
+            .dependents
+            .with_all(alloc, dependents_of(alloc, &project)?)?;
+        let projects = self
+            .projects
+            .with(alloc, Filed::of_project(alloc, project)?)?;
+        Ok(Live {
+            projects,
+            ids,
+            dependents,
+        })
+    }
+
+    /// The same list.
+    fn share(&self, alloc: Global) -> Result<Live, NoMemory>
+        ensures { IfOk result (λ live. live ≡ self.now) }
+    {
+        Ok(Live {
+            projects: self.projects.share(alloc)?,
+            ids: self.ids.share(alloc)?,
+            dependents: self.dependents.share(alloc)?,
+        })
     }
 
     /// The list without the project of this filing number, if it has one.
     pub fn without(&self, alloc: Global, filing: u32) -> Result<Live, NoMemory>
         ensures { IfOk result (λ live. live ≡ spec.without_filing filing self.now) }
     {
-        let mut projects = Vec::with_capacity(alloc, self.projects.len())?;
-        append_filed_before(&mut projects, &self.projects, filing)?;
-        append_filed_after(&mut projects, &self.projects, filing)?;
-        Ok(Live { projects })
+        let Some(project) = self.filed_as(filing) else {
+            return self.share(alloc);
+        };
+        let ids = self.ids.without_all(alloc, &lineage_of(alloc, project)?)?;
+        let dependents = self
+            .dependents
+            .without_all(alloc, &dependents_of(alloc, project)?)?;
+        Ok(Live {
+            projects: self.projects.without(alloc, &filing)?,
+            ids,
+            dependents,
+        })
     }
-}
-
-fn first_with_id(projects: &[Arc<Project>], id: u128) -> Option<&Arc<Project>>
-    ensures { option_map (λ one. one.now) result ≡ find (λ one. id_of (arc_value one) == id) projects.now }
-{
-    projects.iter().find(|one| one.id() == id)
-}
-
-fn stands_in_a_lineage(projects: &[Arc<Project>], id: u128) -> bool
-    ensures { result ≡ list_any (λ (one : Arc PlainProject Global). has_id one.value.lineage id) projects.now }
-{
-    projects.iter().any(|one| has(&one.lineage, id))
-}
-
-fn has(ids: &Ids, id: u128) -> bool
-    ensures { result ≡ has_id ids.now id }
-{
-    ids.contains(id)
-}
-
-/// Shares the projects of lower filing numbers.
-fn append_filed_before(
-    projects: &mut Vec<Arc<Project>>,
-    from: &[Arc<Project>],
-    filing: u32,
-) -> Result<(), NoMemory>
-    ensures { OnOk result (behind projects.new.items ≡ behind projects.old.items ++ filter (λ one. nat_lt one.filing filing) (behind from.now)) }
-{
-    for project in from {
-        if project.filing < filing {
-            projects.push(Arc::try_clone(project)?)?;
-        }
-    }
-    Ok(())
-}
-
-/// Shares the projects of higher filing numbers.
-fn append_filed_after(
-    projects: &mut Vec<Arc<Project>>,
-    from: &[Arc<Project>],
-    filing: u32,
-) -> Result<(), NoMemory>
-    ensures { OnOk result (behind projects.new.items ≡ behind projects.old.items ++ filter (λ one. nat_lt filing one.filing) (behind from.now)) }
-{
-    for project in from {
-        if project.filing > filing {
-            projects.push(Arc::try_clone(project)?)?;
-        }
-    }
-    Ok(())
 }

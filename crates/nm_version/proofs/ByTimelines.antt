@@ -1,11 +1,8 @@
 -- Refusals and answers by the timelines are those of replay.
-use Rattle.std.proofs.Common.{◌≡◌, ◌∙◌, ℕ, ◌==◌, List, [], ◌∷◌, ◌++◌, Bool, true, false, cond, map, Option, None, Some, Result, Ok, Err, refl, sym, ap}
+use Rattle.std.proofs.Common.{◌≡◌, ◌∙◌, ℕ, List, [], ◌∷◌, ◌++◌, Bool, true, false, cond, map, Option, None, Some, Result, Ok, Err, refl, sym, ap}
 use Rattle.std.proofs.lemmas.List.Folds.{flat_map-map}
-use Rattle.std.specs.Arc.{arc_value}
-use Rattle.std.specs.Global.{Global}
-use Rattle.std.specs.List.{AllByRecursion, filter, find, flat_map}
+use Rattle.std.specs.List.{AllByRecursion, filter, flat_map}
 use Rattle.std.specs.Option.{option_map}
-use Rattle.std.specs.declared.sync.Arc.{Arc}
 use Rattle.nm_check.proofs.Presence.{unmarked}
 use Rattle.nm_check.specs.Breaks.{first_of, first_statement_break}
 use Rattle.nm_check.specs.Edit.{edited_steps}
@@ -20,10 +17,10 @@ use Rattle.nm_day.specs.declared.key.Key.{Key}
 use Rattle.nm_ident.proofs.Rising.{all_weaker}
 use Rattle.nm_ident.specs.declared.ident.Ident.{Ident}
 use Rattle.nm_model.specs.declared.document.Full.{Full}
-use Rattle.nm_stage.proofs.Lists.{find-map, map-map}
+use Rattle.nm_stage.proofs.Lists.{map-map}
 use Rattle.nm_stage.specs.Dependencies.{missing_of}
 use Rattle.nm_stage.specs.Live.{IsLive}
-use Rattle.nm_stage.specs.Project.{PlainProject, PlainStep, behind, model_of, step_of}
+use Rattle.nm_stage.specs.Project.{PlainProject, PlainStep, model_of, step_of}
 use Rattle.nm_stage.specs.Steps.{in_order, steps_of}
 use Rattle.nm_statement.specs.Set.{set_of}
 use Rattle.nm_statement.specs.declared.statement.Statement.{Statement}
@@ -124,13 +121,6 @@ want_join false P Q f h = f h
 pub want_from : (b : Bool) (P : Type 0) → P → OrWant b P
 want_from true P h = tt
 want_from false P h = h
-
--- the project of a filing number, behind what it is shared by
-pub filed_told : (given : List (Arc PlainProject Global)) (live : List PlainProject) (filing : ℕ) (found : Option (Arc PlainProject Global)) → behind given ≡ live
-    → found ≡ find (λ (one : Arc PlainProject Global). one.value.filing == filing) given → model_or_none (option_map arc_value found) ≡ model_filed live filing
-filed_told given live filing found e f =
-    ap model_or_none
-    (ap (option_map arc_value) f ∙ find-map (λ (p : PlainProject). p.filing == filing) arc_value given ∙ ap (find (λ (p : PlainProject). p.filing == filing)) e)
 
 -- an edit of steps that leaves these live projects
 module _ (base : Full) (live : List PlainProject) (l : IsLive live) (remove add before : List PlainStep) (edited : steps_of live ≡ edited_steps remove add before)

@@ -15,5 +15,6 @@ pub mod Determined
 pub mod Lesser
 pub mod Fitting
 pub mod Edited
-pub mod ByTimelines
+pub mod Others
 pub mod Crossing
+pub mod ByTimelines

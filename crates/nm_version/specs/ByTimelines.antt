@@ -1,5 +1,5 @@
 -- Refusals and answers by the timelines that a version keeps.
-use Rattle.std.specs.Prelude.{◌≡◌, List, ◌++◌, ℕ, ◌==◌, Option, None, Some, Result, Ok, Err}
+use Rattle.std.specs.Prelude.{◌≡◌, List, ◌++◌, ℕ, ◌+◌, ◌==◌, Option, None, Some, Result, Ok, Err}
 use Rattle.std.specs.List.{find, flat_map}
 use Rattle.std.specs.Option.{option_and_then, option_map}
 use Rattle.nm_day.specs.declared.key.Key.{Key}
@@ -13,7 +13,7 @@ use Rattle.nm_timeline.specs.declared.part.Part.TheVariants.{Precondition, Rever
 use Rattle.nm_version.specs.Changed.{live_after}
 use Rattle.nm_version.specs.Command.{entry_of, project_named}
 use Rattle.nm_version.specs.Edits.{added_by}
-use Rattle.nm_version.specs.Kept.{Kept}
+use Rattle.nm_version.specs.Kept.{Kept, number_of}
 use Rattle.nm_version.specs.Replay.{first_break}
 use Rattle.nm_version.specs.Timeline.{line_if}
 use Rattle.nm_version.specs.Timelines.{timelines_over}
@@ -28,6 +28,15 @@ use Rattle.nm_version.specs.declared.refusal.Refusal.TheVariants as refusal
 -- the project that a command names, where it is live
 abbrev pub own_project : Kept → Command → Option PlainProject
 own_project kept command = option_and_then (λ id. project_of id kept.live) (project_named command)
+
+-- the filing number of a project, or else the next one
+abbrev pub filing_or : ℕ → Option PlainProject → ℕ
+filing_or next None = next
+filing_or next (Some project) = project.filing
+
+-- the filing number of the project that a command changes: that of the one that it names, or the next one
+abbrev pub filing_changed : Kept → Command → ℕ
+filing_changed kept command = filing_or (number_of kept + 1) (own_project kept command)
 
 -- what a command makes of the live projects, the steps that it adds, and what the log keeps of it
 pub record IsChanged (kept : Kept) (command : Command) (live : List PlainProject) (added : List PlainStep) (entry : Entry) : Type 0 where

@@ -1,7 +1,7 @@
 // What a command makes of a version.
 ghost use Rattle.nm_stage.specs.Live.{CanJoin, holds, project_of, with_project};
 ghost use Rattle.nm_stage.specs.Project.{step_of};
-ghost use Rattle.nm_version.specs.ByTimelines.{IsChanged, own_project};
+ghost use Rattle.nm_version.specs.ByTimelines.{IsChanged, filing_changed, own_project};
 ghost use Rattle.nm_version.specs.Changed as spec;
 ghost use Rattle.nm_version.specs.Command.{header_of};
 ghost use Rattle.nm_version.specs.Edits.{step_filed, step_redated, step_revised, taken_by};
@@ -56,6 +56,17 @@ impl Version {
     {
         let id = command.project()?;
         self.live_projects().find(id)
+    }
+
+    /// The filing number of the project that a command changes: that of the one that it names, or
+    /// the next one.
+    pub(crate) fn filing_changed(&self, command: &Command) -> u32
+        ensures { result ≡ filing_changed self.now command.now }
+    {
+        match self.own_project(command) {
+            Some(project) => project.filing,
+            None => self.number() + 1,
+        }
     }
 
     /// What a command makes of this version that no rule before the breaks refuses.

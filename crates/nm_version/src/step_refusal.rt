@@ -1,20 +1,14 @@
 // The first break of the live projects, as a refusal.
 ghost use Rattle.nm_version.specs.ByTimelines as spec;
 ghost use Rattle.nm_version.specs.Lesser as lesser;
-ghost use Rattle.nm_stage.specs.Project.{PlainProject};
-ghost use Rattle.std.specs.Global.{Global};
-ghost use Rattle.std.specs.declared.sync.Arc.{Arc};
-ghost use Rattle.std.specs.List.{find};
-ghost use Rattle.std.specs.Option.{option_map};
-ghost use Rattle.std.specs.Prelude.{◌≡◌, ◌==◌, Some};
+ghost use Rattle.std.specs.Prelude.{◌≡◌, Some};
 
 use crate::refusal::{Cause, Refusal};
 use nm_check::Break;
 use nm_day::Key;
-use nm_stage::{Live, Project};
+use nm_stage::Live;
 use nm_statement::Statement;
 use nm_timeline::Part;
-use std::sync::Arc;
 
 /// The refusal of the lesser, by the keys of their steps, of a dependency that is not met and a
 /// statement that does not fit. At one key it is the dependency.
@@ -58,14 +52,8 @@ fn cause_by(part: Part, statement: Statement) -> Cause
 pub(crate) fn model_filed(live: &Live, filing: u32) -> u128
     ensures { result ≡ spec.model_filed live.now filing }
 {
-    match project_filed(live.as_slice(), filing) {
+    match live.filed_as(filing) {
         Some(project) => project.model(),
         None => 0,
     }
-}
-
-fn project_filed(projects: &[Arc<Project>], filing: u32) -> Option<&Arc<Project>>
-    ensures { option_map (λ one. one.now) result ≡ find (λ (one : Arc PlainProject Global). one.value.filing == filing) projects.now }
-{
-    projects.iter().find(|one| one.filing == filing)
 }

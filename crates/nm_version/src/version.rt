@@ -1,7 +1,8 @@
 // The store as a value of versions.
 ghost use Rattle.nm_model.specs.declared.document.Document.TheVariants as document;
 ghost use Rattle.nm_reader.specs.Input.{IsDocumentOf};
-ghost use Rattle.nm_stage.specs.Live.{IsLive};
+ghost use Rattle.nm_stage.specs.Dependencies.{missing_of};
+ghost use Rattle.nm_stage.specs.Live.{IsLive, without_filing};
 ghost use Rattle.nm_check.specs.Kept.{AreTimelinesOf};
 ghost use Rattle.nm_check.specs.Timelines.{base_of, timelines_of};
 ghost use Rattle.nm_stage.specs.Steps.{steps_of};
@@ -14,14 +15,15 @@ ghost use Rattle.nm_version.specs.Kept as kept;
 ghost use Rattle.nm_version.specs.Limits.{largest_store, most_commits};
 ghost use Rattle.nm_version.specs.Projects.{rows_of};
 ghost use Rattle.nm_version.specs.Refusal as refused;
+ghost use Rattle.nm_version.specs.Replay.{known_before};
 ghost use Rattle.nm_version.specs.Within.{IsWithin};
 ghost use Rattle.nm_version.specs.Timelines.{most_steps_of, steps_of_edit, timelines_over};
 ghost use Rattle.std.specs.Prelude.{◌≡◌, ◌+◌, ◌≤◌, ◌<◌, [], IfOk, None, length};
 
 use crate::command::{Command, Entry};
-use crate::dependencies::first_missing;
+use crate::dependencies::missing_since;
 use crate::edits::Changed;
-use crate::laws::commands_edit_steps;
+use crate::laws::{commands_edit_steps, what_is_reached_fits};
 use crate::log::Log;
 use crate::refusal::{Cause, Refusal};
 use crate::row::{Row, rows};
@@ -156,9 +158,10 @@ impl Version {
         command.has_line();
         commands_edit_steps();
         let size = self.size + command.document_size();
+        let filing = self.filing_changed(&command);
         let taken = self.steps_taken(alloc, &command)?;
         let Changed { live, added, entry } = self.changed(alloc, command)?;
-        let timelines = self.timelines_after(alloc, &taken, &added, &live, steps)?;
+        let timelines = self.timelines_after(alloc, &taken, &added, &live, filing, steps)?;
         let version = self.with_entry(alloc, live, timelines, entry, size)?;
         Ok(version)
     }
@@ -187,22 +190,25 @@ impl Version {
         })
     }
 
-    /// The timelines after an edit of steps that leaves these live projects, or why one of their
-    /// steps does not fit.
+    /// The timelines after an edit of steps that leaves these live projects, of which that of one
+    /// filing number is not as before, or why one of their steps does not fit.
     fn timelines_after<L: Ledger>(
         &self,
         alloc: Global,
         taken: &[Step],
         added: &[Step],
         live: &Live,
+        filing: u32,
         steps: &mut Steps<L>,
     ) -> Result<Timelines, Refusal>
-        requires { IsEdit taken.now added.now (steps_of self.now.live) (steps_of live.now) }
+        requires edit { IsEdit taken.now added.now (steps_of self.now.live) (steps_of live.now) }
+        requires others { without_filing filing self.now.live ≡ without_filing filing live.now }
         ensures timelines { IsDue refused.wants_memory result (timelines_due self.now.base live.now) }
         ensures steps { steps.new ≤ steps.old + steps_of_edit (length (timelines_over self.now.base self.now.live)) taken.now added.now }
     {
-        let _projects = live.as_slice();
-        let missing = first_missing(alloc, self.header(), live)?;
+        live.projects_are_live();
+        self.dependencies_are_met();
+        let missing = missing_since(alloc, self.header(), self.live_projects(), live, filing)?;
         match self.timelines().edit(alloc, taken, added, steps) {
             Ok(timelines) => match missing {
                 Some((key, id)) => Err(refusal_of(live, key, Cause::Dependency(id))),
@@ -211,6 +217,15 @@ impl Version {
             Err(EditError::Break(found)) => Err(refusal_of_lesser(live, missing, found)),
             Err(EditError::NoMemory) => Err(Refusal::NoMemory),
         }
+    }
+
+    /// Each dependency of the live projects is met. It takes no time: a call brings to a proof what
+    /// the type keeps.
+    fn dependencies_are_met(&self)
+        ensures { missing_of (known_before self.now.base.header) self.now.live ≡ None }
+    {
+        what_is_reached_fits();
+        let _live = &self.live;
     }
 
     /// The timelines of the statements that the base or the live projects name.
@@ -246,7 +261,7 @@ impl Version {
         ensures projects { result.now ≡ self.now.live }
         ensures live { IsLive self.now.live }
     {
-        let _projects = self.live.as_slice();
+        self.live.projects_are_live();
         &self.live
     }
 

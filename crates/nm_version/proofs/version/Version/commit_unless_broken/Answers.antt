@@ -1,13 +1,16 @@
 use Rattle.std.proofs.Common.{◌≡◌, ◌∙◌, ◌≤◌, ◌+◌, ℕ, List, None, Result, Err, Ok, length, sym, ap, subst}
 use Rattle.std.proofs.lemmas.Result.{err_from_is_err_and}
-use Rattle.nm_stage.specs.Project.{PlainProject}
+use Rattle.nm_stage.specs.Live.{without_filing}
+use Rattle.nm_stage.specs.Project.{PlainProject, PlainStep}
+use Rattle.nm_stage.specs.Steps.{steps_of}
 use Rattle.nm_statement.specs.declared.statement.Statement.{Statement}
 use Rattle.nm_terms.specs.Due.{IsDue, OrWant}
 use Rattle.nm_timeline.specs.Timeline.{PlainTimeline}
-use Rattle.nm_version.specs.After.{accepted, commit_of}
-use Rattle.nm_version.specs.ByTimelines.{timelines_due}
+use Rattle.nm_version.specs.After.{IsReached, accepted, commit_of}
+use Rattle.nm_version.specs.ByTimelines.{filing_changed, timelines_due}
 use Rattle.nm_version.specs.Changed.{live_after}
 use Rattle.nm_version.specs.Command.{document_size, entry_of}
+use Rattle.nm_version.specs.Edits.{IsEdit, taken_by}
 use Rattle.nm_version.specs.Kept.{Kept, with_entry}
 use Rattle.nm_version.specs.Refusal as refusal
 use Rattle.nm_version.specs.Refusal.{wants_memory}
@@ -18,12 +21,31 @@ use Rattle.nm_version.specs.Within.{IsWithin}
 use Rattle.nm_version.specs.declared.refusal.Refusal.{Refusal}
 use Rattle.nm_version.proofs.ByTimelines.{refused_err, unrefused_ok, want_join}
 use Rattle.nm_version.proofs.Commits.{accepts, refused_late, within_after}
+use Rattle.nm_version.proofs.Others.{others_stay}
+use Rattle.nm_version.proofs.Reached.{live}
 use Rattle.nm_version.proofs.version.Version.commit_unless_broken.Goals as goal
 
 late : (kept : Kept) (command : Command) (refused : Refusal) → refusal.early_refusal kept command ≡ None → OrWant (wants_memory refused) (timelines_due kept.base (live_after kept command) ≡ Err refused)
     → OrWant (wants_memory refused) (commit_of kept command ≡ Err refused)
 late kept command refused early due =
     want_join (wants_memory refused) _ _ (λ h. refused_late kept command refused (sym early) (sym (refused_err _ _ refused h))) due
+
+pub timelines_after-requires : goal.timelines_after-requires
+timelines_after-requires g c =
+    let kept = c.args.self.now in
+    let command = c.args.command in
+    let after = c.in_ok-live.field-0.live in
+    let reached = subst IsReached c.self.view_is c.self.invariant.reached in
+    let edited = c.commands_edit_steps.ensures kept command reached c.requires.spelt c.requires.early in
+    let taken = c.deref.ensures.value ∙ c.in_ok-taken.ensures in
+    let added = c.deref-2.ensures.value ∙ c.in_ok-live.ensures.added_are in
+    let others = sym (others_stay kept command (live kept reached)) ∙ ap (without_filing (filing_changed kept command)) (sym c.in_ok-live.ensures.live_is) in
+    record {
+      edit = subst (λ (l : List PlainProject). IsEdit c.deref.result.now c.deref-2.result.now (steps_of kept.live) (steps_of l)) (sym c.in_ok-live.ensures.live_is)
+          (subst (λ (steps : List PlainStep). IsEdit steps c.deref-2.result.now (steps_of kept.live) (steps_of (live_after kept command))) (sym taken)
+          (subst (λ (steps : List PlainStep). IsEdit (taken_by kept command) steps (steps_of kept.live) (steps_of (live_after kept command))) (sym added) edited));
+      others = subst (λ f. without_filing f kept.live ≡ without_filing f after) (sym c.filing_changed-filing.ensures) others;
+    }
 
 pub returns-in_err-timelines-clause-commit : goal.returns-in_err-timelines-clause-commit
 returns-in_err-timelines-clause-commit g c =

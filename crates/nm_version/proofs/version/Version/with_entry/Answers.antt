@@ -1,7 +1,6 @@
 use Rattle.std.proofs.Common.{◌≡◌, ◌∙◌, ◌++◌, ◌∷◌, List, [], ap, subst, sym, rules}
 use Rattle.std.specs.Arc.{arc_value}
 use Rattle.nm_check.specs.Timelines.{base_of}
-use Rattle.nm_stage.specs.Project.{behind}
 use Rattle.nm_stage.specs.Steps.{steps_of}
 use Rattle.nm_statement.specs.declared.statement.Statement.{Statement}
 use Rattle.nm_timeline.specs.Timeline.{PlainTimeline}
@@ -10,7 +9,7 @@ use Rattle.nm_version.specs.Kept as kept_specs
 use Rattle.nm_version.specs.Within.{IsWithin, kept_of}
 use Rattle.nm_version.proofs.version.Version.with_entry.Goals as goal
 
-made : (c : goal.In_ok-with) → kept_of c.in_ok-try_clone.field-0 c.in_ok-try_clone-2.field-0 (behind c.live.inside.projects.items) c.timelines.inside.tree c.in_ok-with.field-0
+made : (c : goal.In_ok-with) → kept_of c.in_ok-try_clone.field-0 c.in_ok-try_clone-2.field-0 c.live.inside.projects c.timelines.inside.tree c.in_ok-with.field-0
     ≡ kept_specs.with_entry c.args.self.now c.args.live c.args.entry
 made c =
     let kept = c.args.self.now in
