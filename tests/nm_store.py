@@ -1,11 +1,14 @@
-"""`nm-store` on a file: each command, what it leaves in the file, the lock, full disks, and files that are no store.
+"""`nm-store` on a file: each command, what it leaves in the file, the lock, interrupts, full disks, and files that are no store.
 
 What is wanted is written by hand, or comes from the plain rules. The log of a store is put together here from its documents.
 """
 import fcntl
 import json
 import os
+import pty
+import re
 import resource
+import signal
 import stat
 import subprocess
 
@@ -105,18 +108,29 @@ def questions() -> None:
               tuple(refused[name] for name in ("refused", "day", "model", "cause", "dependency")))
 
 
+def with_a_session_behind(folder: Folder, first: str) -> dict:
+    """Surroundings in which nm is one whose sessions come behind this command of a shell."""
+    program = folder.path / "nm that waits"
+    program.write_text(f'#!/bin/sh\n[ "$1" = session ] && {first}\nexec "{NM}" "$@"\n')
+    program.chmod(0o755)
+    return {**SURROUNDINGS, "NM": str(program), "USER": "anna"}
+
+
+def one_that_waits(folder: Folder):
+    """A filing that holds the store, and the gate at which its nm waits for a line."""
+    os.mkfifo(folder.path / "gate")
+    first = subprocess.Popen([*WORDS, STORE, "file", "2027-09-15", LEVEL_FILE], cwd=folder.path, stdout=subprocess.PIPE,
+                             stderr=subprocess.PIPE, env=with_a_session_behind(folder, f'read line < "{folder.path}/gate"'))
+    gate = open(folder.path / "gate", "w")  # opens as soon as the first holds the store, or just before
+    while not (folder.path / f"{STORE}.lock").exists() or not folder.read(f"{STORE}.lock"):
+        pass
+    return first, gate
+
+
 def two_at_once() -> None:
     with Folder() as folder:
         log = filled(folder, FILED[:1])
-        os.mkfifo(folder.path / "gate")
-        waiting = folder.path / "nm that waits"
-        waiting.write_text(f'#!/bin/sh\n[ "$1" = session ] && read line < "{folder.path}/gate"\nexec "{NM}" "$@"\n')
-        waiting.chmod(0o755)
-        first = subprocess.Popen([*WORDS, STORE, "file", "2027-09-15", LEVEL_FILE], cwd=folder.path, stdout=subprocess.PIPE,
-                                 env={**SURROUNDINGS, "NM": str(waiting), "USER": "anna"})
-        gate = open(folder.path / "gate", "w")  # opens as soon as the first holds the store, or just before
-        while not (folder.path / f"{STORE}.lock").exists() or not folder.read(f"{STORE}.lock"):
-            pass
+        first, gate = one_that_waits(folder)
         said, errors, status = folder.run(STORE, "file", "2027-06-01", "again.xml")
         check("the second is told", ("", 9, True, True, True), (said, status, f"anna, process {first.pid} on" in errors,
                                                                f"file 2027-09-15 {LEVEL_FILE}" in errors, errors.count("\n") < 3))
@@ -130,6 +144,40 @@ def two_at_once() -> None:
             fcntl.flock(lock, fcntl.LOCK_EX)
             check("a lock that names nobody", 9, folder.run(STORE, "withdraw", SECOND)[2])
         check("and behind it", 0, folder.run(STORE, "withdraw", SECOND)[2])
+
+
+def interrupts() -> None:
+    with Folder() as folder:
+        log = filled(folder, FILED[:1])
+        first, gate = one_that_waits(folder)
+        first.send_signal(signal.SIGINT)
+        said, errors = first.communicate()
+        gate.close()
+        check("an interrupt", (b"", b"nm-store: interrupted\n", 130, log), (said, errors, first.returncode, folder.read(STORE)))
+        check("the store is free behind it", 0, folder.run(STORE, "file", "2027-09-15", LEVEL_FILE)[2])
+
+
+def bars() -> None:
+    """A bar on a terminal alone. The base is 5,089 of the 7,784 bytes of documents, and the bar waits there for a slow nm."""
+    with Folder() as folder:
+        filled(folder)
+        slow = with_a_session_behind(folder, "sleep 1.5")
+        ours, theirs = pty.openpty()
+        ended = subprocess.run([*WORDS, STORE, "summary", "2027-09-15"], cwd=folder.path, stdout=subprocess.PIPE, stderr=theirs, env=slow)
+        os.close(theirs)
+        drawn = b""
+        with open(ours, "rb", buffering=0) as terminal:
+            try:
+                while more := terminal.read(4096):
+                    drawn += more
+            except OSError:
+                pass  # the end of a terminal
+        shares = [int(share) for share in re.findall(rb"\] (\d+) %", drawn)]
+        check("the answer beside a bar", (b"2027-09-15: 64 statements, 2 projects, 2 commits\n", 0), (ended.stdout, ended.returncode))
+        check("the bar says what is done", f"\r\033[Kreading {STORE} [{'#' * 19}{'.' * 11}] 65 %", drawn.decode()[:len(STORE) + 50])
+        check("the bar goes no way back", sorted(shares), shares)
+        check("the bar is taken away", b"\r\033[K", drawn[-4:])
+        check("no bar where there is no terminal", "", folder.run(STORE, "summary", "2027-09-15", env=slow)[1])
 
 
 def many_at_once() -> None:
@@ -221,6 +269,8 @@ def words_of_the_command_line() -> None:
 changes()
 questions()
 two_at_once()
+interrupts()
+bars()
 many_at_once()
 full_disks()
 no_stores()

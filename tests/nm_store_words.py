@@ -140,6 +140,8 @@ def faults() -> None:
             if code in ("piece", "text"):
                 folder.write("grid.store", log_of(BASE, COMMANDS))
                 check(f"{code} in a project", (told, "", 1), folder.run("grid.store", "file", "2027-05-01", file))
+                found = json.loads(folder.run("grid.store", "file", "2027-05-01", file, "--json")[0])
+                check(f"{code} in a project, as JSON", {"refused": "document", **facts}, found)
     with Folder() as folder:
         told = {code: folder.run("check", folder.write("a.xml", content))[0] for code, content in (
             ("a byte order mark", b"\xef\xbb\xbfx"), ("lines that end with CR LF", b"<?xml version='1.0'?>\r\n\r\n <a>"), ("a tab", b"<?xml version='1.0'?>\n\t\t<a>"),

@@ -12,7 +12,8 @@ from harness import check, finish
 from planner import PROGRAM, SURROUNDINGS, Folder, base, log_of, project, substation
 
 PLACES, LAST = 200, 50
-# Runs a program, counts the lines of its file that it comes to, and kills the process at the one that is asked.
+# Runs a program, counts the lines of its file that it comes to, and kills the process at the one that is asked. What runs once
+# for each letter of a text is not counted: the number of a process, which is in one, has more digits at one run than at another.
 DRIVER = """
 import os, runpy, signal, sys
 program, place = sys.argv[1], int(sys.argv[2])
@@ -21,7 +22,7 @@ sys.argv[0] = program
 count = 0
 def trace(frame, event, argument):
     global count
-    if frame.f_code.co_filename != program:
+    if frame.f_code.co_filename != program or frame.f_code.co_name == "<genexpr>":
         return None
     if event == "line":
         count += 1
