@@ -116,11 +116,17 @@ def with_a_session_behind(folder: Folder, first: str) -> dict:
     return {**SURROUNDINGS, "NM": str(program), "USER": "anna"}
 
 
+def hear_interrupts() -> None:
+    """What a shell starts in the background ignores interrupts, and so would what it starts in turn."""
+    signal.signal(signal.SIGINT, signal.SIG_DFL)
+
+
 def one_that_waits(folder: Folder):
     """A filing that holds the store, and the gate at which its nm waits for a line."""
     os.mkfifo(folder.path / "gate")
     first = subprocess.Popen([*WORDS, STORE, "file", "2027-09-15", LEVEL_FILE], cwd=folder.path, stdout=subprocess.PIPE,
-                             stderr=subprocess.PIPE, env=with_a_session_behind(folder, f'read line < "{folder.path}/gate"'))
+                             stderr=subprocess.PIPE, env=with_a_session_behind(folder, f'read line < "{folder.path}/gate"'),
+                             preexec_fn=hear_interrupts)
     gate = open(folder.path / "gate", "w")  # opens as soon as the first holds the store, or just before
     while not (folder.path / f"{STORE}.lock").exists() or not folder.read(f"{STORE}.lock"):
         pass
@@ -151,7 +157,7 @@ def interrupts() -> None:
         log = filled(folder, FILED[:1])
         first, gate = one_that_waits(folder)
         first.send_signal(signal.SIGINT)
-        said, errors = first.communicate()
+        said, errors = first.communicate(timeout=60)
         gate.close()
         check("an interrupt", (b"", b"nm-store: interrupted\n", 130, log), (said, errors, first.returncode, folder.read(STORE)))
         check("the store is free behind it", 0, folder.run(STORE, "file", "2027-09-15", LEVEL_FILE)[2])
